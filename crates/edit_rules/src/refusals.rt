@@ -1,0 +1,36 @@
+//! Why an edit is refused.
+ghost use Rattle.std.specs.Prelude.{◌≡◌};
+
+use units::{Memory, Name};
+
+/// What a limit counts.
+#[derive(Clone, Copy, Debug, PartialEq, Eq)]
+pub enum Counted {
+    Shapes,
+    Entries,
+}
+
+/// Why an edit or an undo is refused.
+#[derive(Debug, Drop, PartialEq)]
+pub enum Refusal {
+    /// A number of the edit, the first outside its range.
+    Range { value: i32 },
+    /// The new name stands already.
+    Taken { name: Name },
+    /// So many stand already, and no more may.
+    Limit { what: Counted, count: u32 },
+    /// The document was ended, by the entry at this place of the history.
+    Ended { place: u32 },
+    /// Want of memory.
+    Memory,
+}
+
+impl From<Memory> for Refusal {
+    ghost use Rattle.edit_rules.specs.declared.refusals.Refusal.TheVariants as refusal;
+
+    ghost from_gives = { λ _ e. e ≡ refusal.Memory };
+
+    fn from(_: Memory) -> Self {
+        Refusal::Memory
+    }
+}

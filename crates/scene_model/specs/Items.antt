@@ -1,0 +1,43 @@
+-- The items of a diagram by sort and by name.
+use Rattle.std.specs.Prelude.{ℕ, ◌<◌, List, ◌++◌, ◌∷◌, [], length, Bool, Option, Some, None, position}
+use Rattle.std.specs.Option.{option_map}
+use Rattle.std.specs.List.{list_any}
+use Rattle.units.specs.declared.geometry.Axis.{Axis}
+use Rattle.scene_model.specs.declared.items.Sort.{Sort}
+use Rattle.scene_model.specs.declared.items.Sort.TheVariants as sort
+use Rattle.scene_model.specs.declared.items.Item.{Item}
+use Rattle.scene_model.specs.declared.items.Thing.{Thing}
+use Rattle.scene_model.specs.declared.items.Thing.TheVariants as thing
+use Rattle.scene_model.specs.Names.{NameOf, same_name}
+use Rattle.scene_model.specs.Diagram.{Diagram, names_of, shape_names, IsShape, most_shapes}
+
+-- whether an item of the name stands
+abbrev pub stands : Diagram → NameOf → Bool
+stands d name = list_any (same_name name) (names_of d)
+
+-- how many items of a sort stand
+abbrev pub count_of : Diagram → Sort → ℕ
+count_of d sort.Shape = length d.shapes
+
+-- the item of a name: its sort, and its number among those of the sort
+abbrev pub item_named : Diagram → NameOf → Option Item
+item_named d name = option_map (λ at. record { sort = sort.Shape; at = at }) (position (same_name name) (shape_names d.shapes))
+
+-- the variable of an item on an axis: shapes come first, so a shape's variable has its number
+abbrev pub variable_number : Diagram → Item → ℕ
+variable_number d item = item.at
+
+abbrev pub name_of_thing : Thing → NameOf
+name_of_thing (thing.Shape s) = s.name
+
+-- whether the numbers of an item lie in their ranges
+abbrev pub IsThing : Thing → Type 0
+IsThing (thing.Shape s) = IsShape s
+
+-- whether another item of its sort fits within the limits
+abbrev pub HasRoomFor : Diagram → Thing → Type 0
+HasRoomFor d (thing.Shape s) = count_of d sort.Shape < most_shapes
+
+-- the diagram with a further item, the last of its sort
+abbrev pub with_thing : Diagram → Thing → Diagram
+with_thing d (thing.Shape s) = record d { shapes = d.shapes ++ s ∷ [] }

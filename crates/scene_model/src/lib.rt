@@ -1,0 +1,12 @@
+//! The scene of a diagram: its items in the order of making, by name, and the variables that they give each axis.
+#![tactic(auto)]
+
+pub mod items;
+pub mod scene;
+pub mod shapes;
+pub mod variables;
+
+pub use items::{Form, Item, Shape, Sort, Thing};
+pub use scene::Scene;
+pub use shapes::Shapes;
+pub use variables::{Variable, VariableName};
