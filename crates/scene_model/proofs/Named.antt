@@ -1,5 +1,5 @@
 -- Shapes under their names: numbers, new names, copies.
-use Rattle.std.proofs.Common.{◌≡◌, ◌+◌, ◌<◌, ◌≤◌, ℕ, List, [], ◌∷◌, ◌++◌, Bool, true, false, cond, ◌||◌, length, map, refl, ap, sym, ◌∙◌, arith, take, get_or, slice_get, Some, zero, suc, subst, add-one}
+use Rattle.std.proofs.Common.{◌≡◌, ◌+◌, ◌<◌, ◌≤◌, ℕ, List, [], ◌∷◌, ◌++◌, Bool, true, false, cond, ◌||◌, length, map, refl, ap, sym, ◌∙◌, arith, take, get_or, slice_get, Option, Some, None, zero, suc, subst, add-one}
 use Rattle.std.specs.Prelude.{bytes_eq, position, nat_lt}
 use Rattle.std.specs.List.{position_or_len, list_any, IsDistinct, AllByRecursion}
 use Rattle.std.specs.Cmp.Lexicographic.{nat_list_eq_equiv}
@@ -9,6 +9,12 @@ use Rattle.std.specs.Map.{keys_of}
 use Rattle.std.proofs.lemmas.Bool.Decides.{nat_tests}
 use Rattle.indexmap.specs.IndexMap.{insert_entry}
 use Rattle.scene_model.specs.declared.items.Shape.{Shape}
+use Rattle.units.specs.declared.geometry.Axis.{Axis}
+use Rattle.scene_model.specs.declared.variables.Variable.{Variable}
+use Rattle.scene_model.specs.declared.variables.VariableName.TheVariants.{OfItem}
+use Rattle.scene_model.specs.Variables.{shape_variable, same_variable}
+use Rattle.std.proofs.lemmas.List.{length-map}
+use Rattle.std.proofs.lemmas.Bool.{ltb-true}
 use Rattle.scene_model.specs.Names.{NameOf, same_name}
 use Rattle.scene_model.specs.Diagram.{shape_names}
 use Rattle.scene_model.specs.Shapes.{AreNamed, shapes_of}
@@ -66,3 +72,23 @@ take-next xs k x at = rw add-one (at_suc xs k x at)
     at_suc [] k x at = cc
     at_suc (y ∷ ys) zero x at = let e : y ≡ x = cc in ap (λ z. z ∷ []) e
     at_suc (y ∷ ys) (suc k) x at = ap (λ zs. y ∷ zs) (at_suc ys k x at)
+
+position_or_len-variables : (ss : List Shape) (n : NameOf) (axis : Axis) → position_or_len (same_name n) (shape_names ss) ≡ position_or_len (λ (v : Variable). same_variable (OfItem n) v.name) (map (shape_variable axis) ss)
+position_or_len-variables [] n axis = refl
+position_or_len-variables (s ∷ ss) n axis = grind (arith, position_or_len-variables ss n axis)
+
+-- a shape's name and its variable stand at the same place
+pub position-variables : (ss : List Shape) (n : NameOf) (axis : Axis) → position (same_name n) (shape_names ss) ≡ position (λ (v : Variable). same_variable (OfItem n) v.name) (map (shape_variable axis) ss)
+position-variables ss n axis =
+    let names = length-map ss (λ (s : Shape). s.name) in
+    let variables = length-map ss (shape_variable axis) in
+    ap (λ i. cond (nat_lt i (length (shape_names ss))) (Some i) None) (position_or_len-variables ss n axis)
+    ∙ ap (λ l. cond (nat_lt (position_or_len (λ (v : Variable). same_variable (OfItem n) v.name) (map (shape_variable axis) ss)) l) (Some (position_or_len (λ (v : Variable). same_variable (OfItem n) v.name) (map (shape_variable axis) ss))) None) (names ∙ sym variables)
+
+-- a place that was found lies within the list
+pub position-within : {A : Type 0} (p : A → Bool) (xs : List A) (i : ℕ) → position p xs ≡ Some i → i < length xs
+position-within p xs i at = by (nat_lt (position_or_len p xs) (length xs)) refl at
+  where
+    by : (b : Bool) → nat_lt (position_or_len p xs) (length xs) ≡ b → cond b (Some (position_or_len p xs)) None ≡ Some i → i < length xs
+    by true less e = let same : position_or_len p xs ≡ i = cc in rw same at (ltb-true _ _ less)
+    by false less e = cc

@@ -1,5 +1,7 @@
 //! A scene.
-ghost use Rattle.std.specs.Prelude.{◌≡◌, ◌<◌, ◌++◌, ◌∷◌, [], false, Some, None, IfOk, OnOk, OnErr, length, slice_get, is_some};
+ghost use Rattle.std.specs.Prelude.{◌≡◌, ◌<◌, ◌++◌, ◌∷◌, [], false, Some, None, IfOk, OnOk, OnErr, length, slice_get, is_some, position, IfSome};
+ghost use Rattle.scene_model.specs.declared.variables.Variable.{Variable as VariableValue};
+ghost use Rattle.scene_model.specs.declared.variables.VariableName.TheVariants.{OfItem};
 ghost use Rattle.scene_model.specs.Diagram.{IsWellFormed, IsShape, most_shapes, empty_diagram};
 ghost use Rattle.scene_model.specs.Items.{stands, count_of, item_named, variable_number, name_of_thing, with_thing, IsThing, HasRoomFor};
 ghost use Rattle.scene_model.specs.Variables.{variables, same_variable, shape_variable};
@@ -84,6 +86,25 @@ impl Scene {
         ensures { slice_get (variables self.now axis) var ≡ Some result }
     {
         shape_variable(self.shape(var), axis)
+    }
+
+    /// The number of the variable of this name on the axis: None exactly where no variable has it.
+    pub fn variable_named(&self, axis: Axis, name: &VariableName) -> Option<u16>
+        ensures value { result ≡ position (λ (v : VariableValue). same_variable name.now v.name) (variables self.now axis) }
+        ensures within { IfSome result (λ at. at < length (variables self.now axis)) }
+    {
+        match name {
+            VariableName::OfItem(name) => self.shape_variable_named(axis, name),
+        }
+    }
+
+    fn shape_variable_named(&self, axis: Axis, name: &Name) -> Option<u16>
+        ensures value { result ≡ position (λ (v : VariableValue). same_variable (OfItem name.now) v.name) (variables self.now axis) }
+        ensures within { IfSome result (λ at. at < length (variables self.now axis)) }
+    {
+        let _every = axis;
+        let number = self.shapes.number_of(name)?;
+        Some(number as u16)
     }
 
     /// Adds an item, the last of its sort. After want of memory the scene is as before.

@@ -1,0 +1,8 @@
+-- A document as its callers see it.
+use Rattle.std.specs.Prelude.{ℕ, List}
+use Rattle.doc_book.specs.declared.entries.Entry.{Entry}
+
+-- the entries made so far, in order, and how many frames may come before End
+pub record Document : Type 0 where
+  pub history : List Entry
+  pub budget : ℕ

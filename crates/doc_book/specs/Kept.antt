@@ -1,0 +1,32 @@
+-- What a book keeps beside its history.
+use Rattle.std.specs.Prelude.{◌≡◌, ◌↔◌, ℕ, ◌+◌, ◌≤◌, List, length, Bool, IsTrue, MatchOption}
+use Rattle.units.specs.declared.geometry.Axis.TheVariants.{X, Y}
+use Rattle.scene_model.specs.Diagram.{Diagram}
+use Rattle.scene_model.specs.Variables.{variables}
+use Rattle.frame_store.specs.declared.places.Places.{Places}
+use Rattle.doc_book.specs.declared.entries.Entry.{Entry}
+use Rattle.doc_book.specs.History.{scene_at, places_at, end_place, frame_count, after_end, IsSettled}
+use Rattle.doc_book.specs.Legal.{IsLegal}
+use Rattle.doc_book.specs.Verdicts.{most_entries}
+
+-- a history that was not ended has at most 20,000 entries and its frames, and no more frames than its budget
+pub record IsOpenCount (h : List Entry) (budget : ℕ) : Type 0 where
+  pub frames : frame_count h ≤ budget
+  pub entries : length h ≤ most_entries + frame_count h
+
+-- one that was ended has End besides, and no more frames than its budget and those after End
+pub record IsEndedCount (h : List Entry) (budget : ℕ) : Type 0 where
+  pub frames : frame_count h ≤ budget + length (after_end h)
+  pub entries : length h ≤ most_entries + frame_count h + 1
+  pub finishing : length (after_end h) ≤ 64
+
+-- the history is legal, the scene and places are those that it leads to, and its counts are bounded
+pub record IsKept (h : List Entry) (budget : ℕ) (scene : Diagram) (places : Places) (settled : Bool) : Type 0 where
+  pub legal : IsLegal h budget
+  pub scene_is : scene ≡ scene_at h
+  pub places_are : places ≡ places_at h
+  pub on_x : length places.x ≡ length (variables scene X)
+  pub on_y : length places.y ≡ length (variables scene Y)
+  pub settled_is : IsTrue settled ↔ IsSettled h
+  pub budget_small : budget ≤ 512
+  pub counts : MatchOption (end_place h) (IsOpenCount h budget) (λ _. IsEndedCount h budget)

@@ -1,0 +1,9 @@
+pub mod Document
+pub mod Finished
+pub mod Growing
+pub mod History
+pub mod Kept
+pub mod Legal
+pub mod Listing
+pub mod Replies
+pub mod Verdicts

@@ -1,0 +1,113 @@
+-- The text of a listing: the entries of a history with their frames, and the replies to the lines of a script
+-- (the format is this project's own).
+use Rattle.std.specs.Prelude.{ℕ, ◌+◌, ℤ, List, [], ◌∷◌, ◌++◌, codes, filter, ◌==◌, decimal}
+use Rattle.std.specs.List.{flat_map}
+use Rattle.std.specs.Fmt.{signed_decimal}
+use Rattle.units.specs.declared.geometry.Axis.{Axis}
+use Rattle.units.specs.declared.geometry.Axis.TheVariants.{X, Y}
+use Rattle.scene_model.specs.declared.variables.Variable.{Variable}
+use Rattle.scene_model.specs.declared.variables.VariableName.{VariableName}
+use Rattle.scene_model.specs.declared.variables.VariableName.TheVariants.{OfItem}
+use Rattle.scene_model.specs.Diagram.{Diagram}
+use Rattle.scene_model.specs.Variables.{variables}
+use Rattle.edit_rules.specs.declared.refusals.Counted.{Counted}
+use Rattle.edit_rules.specs.declared.refusals.Counted.TheVariants as counted
+use Rattle.edit_rules.specs.declared.refusals.Refusal.{Refusal}
+use Rattle.edit_rules.specs.declared.refusals.Refusal.TheVariants as refusal
+use Rattle.frame_store.specs.declared.frames.Frame.{Frame}
+use Rattle.script_text.specs.declared.scripts.Line.{Line}
+use Rattle.script_text.specs.Words.{Word, spaced}
+use Rattle.script_text.specs.Commands.{edit_words, command_words}
+use Rattle.doc_book.specs.declared.entries.Entry.{Entry}
+use Rattle.doc_book.specs.declared.entries.Act.{Act}
+use Rattle.doc_book.specs.declared.entries.Act.TheVariants as act
+use Rattle.doc_book.specs.declared.replies.Reply.{Reply}
+use Rattle.doc_book.specs.declared.replies.Reply.TheVariants as reply
+use Rattle.doc_book.specs.History.{scene_at}
+
+-- a line of words divided by one space, with its LF
+abbrev pub text_line : List Word → List ℕ
+text_line words = spaced words ++ 10 ∷ []
+
+-- lines of words
+abbrev pub text_lines : List (List Word) → List ℕ
+text_lines lines = flat_map text_line lines
+
+abbrev pub axis_word : Axis → Word
+axis_word X = codes "x"
+axis_word Y = codes "y"
+
+-- the name of a variable: that of its item
+abbrev pub variable_word : VariableName → Word
+variable_word (OfItem name) = name
+
+-- for each variable of an axis its name, its desired place and its place, in diagram units
+abbrev pub place_lines : Axis → List Variable → List ℤ → List ℤ → List (List Word)
+place_lines axis (v ∷ vs) (d ∷ ds) (p ∷ ps) =
+    (axis_word axis ∷ variable_word v.name ∷ signed_decimal d ∷ signed_decimal p ∷ []) ∷ place_lines axis vs ds ps
+place_lines axis _ _ _ = []
+
+-- the lines of a frame, X before Y
+abbrev pub frame_lines : Diagram → Frame → List (List Word)
+frame_lines scene f =
+    place_lines X (variables scene X) f.desired.x f.places.x ++ place_lines Y (variables scene Y) f.desired.y f.places.y
+
+-- the words of an act, and the lines below them
+abbrev pub act_words : Act → List Word
+act_words (act.Edit e) = edit_words e
+act_words (act.Frame f) = codes "frame" ∷ []
+act_words act.End = codes "end" ∷ []
+
+abbrev pub lines_below : Diagram → Act → List (List Word)
+lines_below scene (act.Edit e) = []
+lines_below scene (act.Frame f) = frame_lines scene f
+lines_below scene act.End = []
+
+-- the lines of an entry: its place, who made it, the line that asked for it, and its act
+abbrev pub lines_of : Diagram → ℕ → Entry → List (List Word)
+lines_of scene place e = (decimal place ∷ decimal e.who ∷ decimal e.line ∷ act_words e.act) ∷ lines_below scene e.act
+
+-- the lines of further entries, from a place on, behind those before it
+abbrev pub entry_lines : List Entry → ℕ → List Entry → List (List Word)
+entry_lines before place [] = []
+entry_lines before place (e ∷ es) = lines_of (scene_at before) place e ++ entry_lines (before ++ e ∷ []) (place + 1) es
+
+abbrev pub counted_word : Counted → Word
+counted_word counted.Shapes = codes "shapes"
+counted_word counted.Entries = codes "entries"
+
+-- a refusal for want of memory ends the run and has no text
+abbrev pub refusal_words : Refusal → List Word
+refusal_words (refusal.Range value) = codes "range" ∷ signed_decimal value ∷ []
+refusal_words (refusal.Taken name) = codes "taken" ∷ name ∷ []
+refusal_words (refusal.Limit what count) = codes "limit" ∷ counted_word what ∷ decimal count ∷ []
+refusal_words (refusal.Ended place) = codes "ended" ∷ decimal place ∷ []
+refusal_words refusal.Memory = []
+
+abbrev pub reply_words : Reply → List Word
+reply_words (reply.Accepted place) = codes "accepted" ∷ decimal place ∷ []
+reply_words (reply.Published place) = codes "published" ∷ decimal place ∷ []
+reply_words (reply.Refused r) = codes "refused" ∷ decimal r.front ∷ refusal_words r.refusal
+reply_words (reply.Idle front) = codes "idle" ∷ decimal front ∷ []
+reply_words (reply.Spent front) = codes "spent" ∷ decimal front ∷ []
+
+-- for each line of a session its number, its command and its reply
+abbrev pub reply_lines : ℕ → List Line → List Reply → List (List Word)
+reply_lines session (l ∷ ls) (r ∷ rs) =
+    (decimal session ∷ decimal l.number ∷ (command_words l.command ++ codes "=" ∷ reply_words r)) ∷ reply_lines session ls rs
+reply_lines session _ _ = []
+
+-- the lines of a session, in order
+abbrev pub session_lines : ℕ → List Line → List Line
+session_lines session script = filter (λ (l : Line). l.session == session) script
+
+-- the reply lines of further sessions, from one on
+abbrev pub sessions_lines : ℕ → List Line → List (List Reply) → List (List Word)
+sessions_lines session script [] = []
+sessions_lines session script (rs ∷ more) = reply_lines session (session_lines session script) rs ++ sessions_lines (session + 1) script more
+
+-- the listing of a script, its history and its replies by session
+abbrev pub listing_text : List Line → List Entry → List (List Reply) → List ℕ
+listing_text script h replies =
+    text_lines
+    ((codes "listing" ∷ codes "1" ∷ []) ∷ entry_lines [] 0 h ++ (codes "replies" ∷ []) ∷ sessions_lines 1 script replies ++ (codes "done" ∷ []) ∷ [])

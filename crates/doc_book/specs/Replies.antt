@@ -1,0 +1,104 @@
+-- What a look finds, right replies, and own entries.
+use Rattle.std.specs.Prelude.{◌≡◌, ℕ, ◌+◌, ◌<◌, ◌≤◌, List, [], ◌∷◌, length, take, filter, map, ◌==◌, Option, Some, None, slice_get, ⊤}
+use Rattle.edit_rules.specs.declared.refusals.Refusal.{Refusal}
+use Rattle.edit_rules.specs.declared.refusals.Refusal.TheVariants as refusal
+use Rattle.script_text.specs.declared.scripts.Command.{Command}
+use Rattle.script_text.specs.declared.scripts.Command.TheVariants as command
+use Rattle.script_text.specs.declared.scripts.Line.{Line}
+use Rattle.doc_book.specs.declared.entries.Entry.{Entry}
+use Rattle.doc_book.specs.declared.entries.Act.{Act}
+use Rattle.doc_book.specs.declared.entries.Act.TheVariants as act
+use Rattle.doc_book.specs.declared.replies.Reply.{Reply}
+use Rattle.doc_book.specs.declared.replies.Reply.TheVariants as reply
+use Rattle.doc_book.specs.History.{end_place, frame_count, IsSettled}
+use Rattle.doc_book.specs.Verdicts.{verdict}
+
+-- what a look finds
+pub data Look : Type 0 where
+  -- the document was ended, by the entry at this place
+  Ending : (place : ℕ) → Look
+  -- the budget of frames is used up
+  Spent : Look
+  -- the last entry is a frame that changed no place
+  Idle : Look
+  -- there is a frame to make
+  Job : Look
+
+-- a look at a history finds the first of Ending, Spent, Idle and Job that holds
+abbrev pub IsLook : List Entry → ℕ → Look → Type 0
+IsLook h budget (Ending place) = end_place h ≡ Some place
+IsLook h budget Spent = (end_place h ≡ None) × (budget ≤ frame_count h)
+IsLook h budget Idle = (end_place h ≡ None) × (frame_count h < budget) × IsSettled h
+IsLook h budget Job = (end_place h ≡ None) × (frame_count h < budget) × (IsSettled h → ⊥)
+
+-- the entry at a place is by this caller with this line, and its act is so
+abbrev pub IsEntryAt : List Entry → ℕ → ℕ → ℕ → (Act → Type 0) → Type 0
+IsEntryAt h place who line P = (e : Entry) × (slice_get h place ≡ Some e) × (e.who ≡ who) × (e.line ≡ line) × P e.act
+
+abbrev pub IsFrameAct : Act → Type 0
+IsFrameAct (act.Frame f) = ⊤
+IsFrameAct _ = ⊥
+
+-- an accepted edit stands at its place, and the entries before it accept it
+abbrev pub IsAccepted : List Entry → ℕ → ℕ → ℕ → Command → Type 0
+IsAccepted h who line place (command.Edit e) = IsEntryAt h place who line (λ a. a ≡ act.Edit e) × (verdict (take place h) e ≡ None)
+IsAccepted h who line place command.Layout = ⊥
+
+-- a refusal is the verdict on the edit, or Ended of a layout, at its front
+abbrev pub IsRefused : List Entry → ℕ → ℕ → Refusal → Command → Type 0
+IsRefused h budget front r (command.Edit e) = verdict (take front h) e ≡ Some r
+IsRefused h budget front r command.Layout = (place : ℕ) × (r ≡ refusal.Ended place) × IsLook (take front h) budget (Ending place)
+
+abbrev pub IsLayout : Command → Type 0
+IsLayout (command.Edit e) = ⊥
+IsLayout command.Layout = ⊤
+
+-- the reply of a history with this budget to a caller's line is right
+abbrev pub IsRightReply : List Entry → ℕ → ℕ → Line → Reply → Type 0
+IsRightReply h budget who line (reply.Accepted place) = IsAccepted h who line.number place line.command
+IsRightReply h budget who line (reply.Published place) = IsLayout line.command × IsEntryAt h place who line.number IsFrameAct
+IsRightReply h budget who line (reply.Refused r) = (r.front ≤ length h) × IsRefused h budget r.front r.refusal line.command
+IsRightReply h budget who line (reply.Idle front) = (front ≤ length h) × IsLayout line.command × IsLook (take front h) budget Idle
+IsRightReply h budget who line (reply.Spent front) = (front ≤ length h) × IsLayout line.command × IsLook (take front h) budget Spent
+
+-- how many entries a caller has seen after a reply
+abbrev pub after_of : Reply → ℕ
+after_of (reply.Accepted place) = place + 1
+after_of (reply.Published place) = place + 1
+after_of (reply.Refused r) = r.front
+after_of (reply.Idle front) = front
+after_of (reply.Spent front) = front
+
+-- at how many entries a reply was given
+abbrev pub from_of : Reply → ℕ
+from_of (reply.Accepted place) = place
+from_of (reply.Published place) = place
+from_of (reply.Refused r) = r.front
+from_of (reply.Idle front) = front
+from_of (reply.Spent front) = front
+
+-- the replies to a caller's lines, one for each in order: each is right, and none was given before the caller had
+-- seen what the one before it showed
+abbrev pub AreRightReplies : List Entry → ℕ → ℕ → ℕ → List Line → List Reply → Type 0
+AreRightReplies h budget who seen [] [] = ⊤
+AreRightReplies h budget who seen (l ∷ ls) (r ∷ rs) =
+    IsRightReply h budget who l r × (seen ≤ from_of r) × AreRightReplies h budget who (after_of r) ls rs
+AreRightReplies h budget who seen [] (r ∷ rs) = ⊥
+AreRightReplies h budget who seen (l ∷ ls) [] = ⊥
+
+-- the entries of a caller, in order
+abbrev pub own_entries : List Entry → ℕ → List Entry
+own_entries h who = filter (λ (e : Entry). e.who == who) h
+
+-- the places of the entries that replies name: those of Accepted and Published, in order
+abbrev pub made_places : List Reply → List ℕ
+made_places [] = []
+made_places (reply.Accepted place ∷ rs) = place ∷ made_places rs
+made_places (reply.Published place ∷ rs) = place ∷ made_places rs
+made_places (reply.Refused r ∷ rs) = made_places rs
+made_places (reply.Idle front ∷ rs) = made_places rs
+made_places (reply.Spent front ∷ rs) = made_places rs
+
+-- the entries of a caller are those at the places that its replies name, in order, each once
+abbrev pub OwnEntriesAre : List Entry → ℕ → List Reply → Type 0
+OwnEntriesAre h who replies = map Some (own_entries h who) ≡ map (slice_get h) (made_places replies)

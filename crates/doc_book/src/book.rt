@@ -1,0 +1,83 @@
+//! The book: a document that keeps its history legal.
+ghost use Rattle.std.specs.Prelude.{◌≡◌, ◌≤◌, [], length};
+ghost use Rattle.doc_book.specs.Document.{Document};
+ghost use Rattle.doc_book.specs.History.{scene_at, places_at};
+ghost use Rattle.doc_book.specs.Legal.{IsLegal};
+
+use crate::entries::Entry;
+use frame_store::Places;
+use scene_model::Scene;
+use std::alloc::Global;
+use std::marker::Model;
+
+/// The most frames that a budget allows before End.
+pub const MOST_FRAMES: u32 = 512;
+
+/// A document: the history of its entries, with the scene and the places that it leads to. Its type keeps that
+/// the history is legal by its budget, and that the scene and the places are those of the history. Contracts see
+/// the history and the budget.
+#[derive(Drop)]
+pub struct Book {
+    pub(crate) history: Vec<Entry>,
+    pub(crate) scene: Scene,
+    pub(crate) places: Places,
+    pub(crate) budget: u32,
+    /// Whether the last entry is a frame that changed no place.
+    pub(crate) settled: bool,
+}
+
+impl Model for Book {
+    ghost use Rattle.doc_book.specs.Document.{Document};
+    ghost use Rattle.doc_book.specs.Kept.{IsKept};
+
+    ghost Value = { Document };
+
+    ghost view = { λ a. record { history = a.history.items; budget = a.budget } };
+
+    ghost invariant = { λ a. IsKept a.history.items a.budget a.scene a.places a.settled };
+}
+
+impl Book {
+    /// The document without entries, with a budget of frames before End: at most 512.
+    pub fn new(alloc: Global, frames: u32) -> Book
+        requires { frames ≤ 512 }
+        ensures { result ≡ record { history = []; budget = frames } }
+    {
+        Book {
+            history: Vec::new(alloc),
+            scene: Scene::empty(alloc),
+            places: Places::none(alloc),
+            budget: frames,
+            settled: false,
+        }
+    }
+
+    /// The entries, in order.
+    pub fn history(&self) -> &[Entry]
+        ensures value { result.now ≡ self.now.history }
+        ensures legal { IsLegal self.now.history self.now.budget }
+    {
+        &self.history
+    }
+
+    /// How many entries the history has.
+    pub fn front(&self) -> u32
+        ensures { result ≡ length self.now.history }
+    {
+        self.history.len() as u32
+    }
+
+    /// The scene of the history.
+    pub fn scene(&self) -> &Scene
+        ensures { result.now ≡ scene_at self.now.history }
+    {
+        &self.scene
+    }
+
+    /// Where the variables stand after the history, in whole diagram units.
+    pub fn places(&self) -> &Places
+        ensures { result.now ≡ places_at self.now.history }
+    {
+        &self.places
+    }
+}

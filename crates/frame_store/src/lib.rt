@@ -1,0 +1,10 @@
+//! Frames of the layout, and the places of a scene's variables.
+#![tactic(auto)]
+
+mod carrying;
+pub mod frames;
+pub mod places;
+
+pub use carrying::carry;
+pub use frames::{drawn, frame_of, settled, Frame};
+pub use places::{Desired, Places};
