@@ -1,0 +1,71 @@
+-- The commands of a script (they are this project's own): for each command its word and its fields, in the order
+-- of its line, and with them the words of its text.
+use Rattle.std.specs.Prelude.{◌≡◌, ℕ, ◌<◌, ◌^◌, ℤ, nat_abs, List, [], ◌∷◌, ◌++◌, codes, true, ⊤}
+use Rattle.std.specs.Fmt.{signed_decimal}
+use Rattle.units.specs.Name.{is_name}
+use Rattle.scene_model.specs.declared.items.Form.{Form}
+use Rattle.scene_model.specs.declared.items.Form.TheVariants as form
+use Rattle.edit_rules.specs.declared.edits.Edit.{Edit}
+use Rattle.edit_rules.specs.declared.edits.Edit.TheVariants as edit
+use Rattle.script_text.specs.declared.scripts.Command.{Command}
+use Rattle.script_text.specs.declared.scripts.Command.TheVariants as command
+use Rattle.script_text.specs.Words.{Word}
+
+-- a field of a command: a name, or a number
+pub data Field : Type 0 where
+  NameField : Word → Field
+  NumberField : ℤ → Field
+
+-- ---- the table: the word of each command, and its fields
+
+-- the word that puts a shape of the form
+abbrev pub form_word : Form → Word
+form_word form.Box = codes "box"
+
+abbrev pub edit_word : Edit → Word
+edit_word (edit.Put n f x y w h) = form_word f
+
+abbrev pub edit_fields : Edit → List Field
+edit_fields (edit.Put n f x y w h) = NameField n ∷ NumberField x ∷ NumberField y ∷ NumberField w ∷ NumberField h ∷ []
+
+abbrev pub command_word : Command → Word
+command_word (command.Edit e) = edit_word e
+command_word command.Layout = codes "layout"
+
+abbrev pub command_fields : Command → List Field
+command_fields (command.Edit e) = edit_fields e
+command_fields command.Layout = []
+
+-- ---- the words of a text
+
+-- the words of a field: a name is its bytes, a number is decimal, with `-` before it below 0
+abbrev pub field_words : Field → List Word
+field_words (NameField n) = n ∷ []
+field_words (NumberField z) = signed_decimal z ∷ []
+
+abbrev pub fields_words : List Field → List Word
+fields_words [] = []
+fields_words (f ∷ fs) = field_words f ++ fields_words fs
+
+-- the words of an edit: its word, then those of its fields
+abbrev pub edit_words : Edit → List Word
+edit_words e = edit_word e ∷ fields_words (edit_fields e)
+
+-- the words of a command
+abbrev pub command_words : Command → List Word
+command_words c = command_word c ∷ fields_words (command_fields c)
+
+-- ---- what a script may say
+
+-- a name that is one, and a number of at most 9 digits
+abbrev pub IsField : Field → Type 0
+IsField (NameField n) = is_name n ≡ true
+IsField (NumberField z) = nat_abs z < 10 ^ 9
+
+abbrev pub AreFields : List Field → Type 0
+AreFields [] = ⊤
+AreFields (f ∷ fs) = IsField f × AreFields fs
+
+-- a command that a script can have: each field is one
+abbrev pub IsCommand : Command → Type 0
+IsCommand c = AreFields (command_fields c)
