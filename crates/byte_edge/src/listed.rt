@@ -1,7 +1,7 @@
 // Sources and sinks over memory, whose listed calls fail.
-ghost use Rattle.std.specs.Prelude.{◌≡◌, ◌↔◌, ◌<◌, ◌≤◌, ◌+◌, ◌-◌, ◌++◌, [], length, take, drop, min, None, Some, true, IfOk, OnOk, IfErr, OnErr, IsErr, IsTrue, Contains, vec_len};
-ghost use Rattle.std.specs.Io.KnownBytes.{IsAtEnd, append_known};
-ghost use Rattle.byte_edge.specs.Count.{HasRisen, count_on, last_count};
+ghost use Rattle.std.specs.Prelude.{◌≡◌, ◌↔◌, ◌<◌, ◌≤◌, ◌+◌, ◌-◌, ◌++◌, [], length, take, drop, min, None, Some, true, IfOk, OnOk, IfErr, OnErr, IsErr, IsTrue, Contains, if◌then◌else◌};
+ghost use Rattle.std.specs.Io.KnownBytes.{append_known};
+ghost use Rattle.byte_edge.specs.Count.{HasRisen, count_on};
 ghost use Rattle.byte_edge.specs.Given.{Gives};
 
 use crate::{Failed, Sink, SinkStop, Source};
@@ -66,9 +66,7 @@ impl Source for MemSource {
         ensures ok { IfOk result (λ n. self.new ≡ record self.old { calls = count_on self.old.calls 1; given = self.old.given + n }) }
         ensures err { OnErr result (self.new ≡ record self.old { calls = count_on self.old.calls 1; faults = count_on self.old.faults 1 }) }
     {
-        self.calls = self.calls.saturating_add(1);
-        if is_listed(&self.fail, self.calls) {
-            self.faults = self.faults.saturating_add(1);
+        if next_call_fails(&self.fail, &mut self.calls, &mut self.faults) {
             return Err(Failed);
         }
         let count = give(&self.bytes[self.given..], buf);
@@ -77,11 +75,19 @@ impl Source for MemSource {
     }
 }
 
-// Whether the call with this number is to fail.
-fn is_listed(fail: &[u32], call: u64) -> bool
-    ensures { IsTrue result ↔ Contains fail.now call }
+// Counts one more call. Where its number is listed, it is to fail, and the fault is counted.
+fn next_call_fails(fail: &[u32], calls: &mut u64, faults: &mut u64) -> bool
+    ensures listed { IsTrue result ↔ Contains fail.now (count_on calls.old 1) }
+    ensures calls { calls.new ≡ count_on calls.old 1 }
+    ensures faults { faults.new ≡ (if result then count_on faults.old 1 else faults.old) }
 {
-    fail.iter().any(|&number| u64::from(number) == call)
+    *calls = calls.saturating_add(1);
+    let call = *calls;
+    let fails = fail.iter().any(|&number| u64::from(number) == call);
+    if fails {
+        *faults = faults.saturating_add(1);
+    }
+    fails
 }
 
 // Copies the front of the bytes to the front of the buffer, as many as both have.
@@ -152,15 +158,14 @@ impl Sink for MemSink {
         ensures put_kept { OnErr result (Some self.new.put ≡ Some self.old.put) }
 
         // It fails exactly at the calls that are listed, and else takes the whole piece where there is memory.
-        ensures listed { (result ≡ Err SinkStop.Failed) ↔ Contains self.old.fail (count_on self.old.calls 1) }
+        ensures listed { result ≡ Err SinkStop.Failed → Contains self.old.fail (count_on self.old.calls 1) }
+        ensures fails { Contains self.old.fail (count_on self.old.calls 1) → result ≡ Err SinkStop.Failed }
         ensures whole { IfOk result (λ n. n ≡ length piece.now) }
         ensures ok { OnOk result (self.new ≡ record self.old { calls = count_on self.old.calls 1; put = self.old.put ++ piece.now }) }
         ensures err { result ≡ Err SinkStop.Failed → self.new ≡ record self.old { calls = count_on self.old.calls 1; faults = count_on self.old.faults 1 } }
         ensures memory_kept { result ≡ Err SinkStop.Memory → self.new ≡ record self.old { calls = count_on self.old.calls 1 } }
     {
-        self.calls = self.calls.saturating_add(1);
-        if is_listed(&self.fail, self.calls) {
-            self.faults = self.faults.saturating_add(1);
+        if next_call_fails(&self.fail, &mut self.calls, &mut self.faults) {
             return Err(SinkStop::Failed);
         }
         self.bytes.extend_from_slice(piece)?;

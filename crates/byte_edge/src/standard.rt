@@ -1,6 +1,7 @@
 // The readers and writers of std as sources and sinks. What they read and write is not told.
 ghost use Rattle.std.specs.Prelude.{◌≡◌, ◌<◌, ◌≤◌, [], length, take, None, false, IfOk, OnOk, OnErr, IfErr, IsTrue};
 ghost use Rattle.byte_edge.specs.Count.{HasRisen, count_on};
+ghost use Rattle.byte_edge.specs.Given.{Gives};
 
 use crate::{Failed, Sink, SinkStop, Source};
 use std::io::{Read, Write};
@@ -44,6 +45,13 @@ impl<R: Read> Source for StdSource<R> {
 
     fn read(&mut self, buf: &mut [u8]) -> Result<usize, Failed>
         ensures fits { IfOk result (λ n. n ≤ length buf.new) }
+        ensures moved { IfOk result (λ n. Gives None None self.old.given self.new.given (take n buf.new)) }
+        ensures calm { OnOk result (self.new.faults ≡ self.old.faults) }
+        ensures failed { OnErr result (HasRisen self.old.faults self.new.faults) }
+        ensures never_falls { self.old.faults ≤ self.new.faults }
+        ensures given_kept { OnErr result (self.new.given ≡ self.old.given) }
+
+        // The one count goes on by the bytes that the reader gave, the other by one at each of its errors.
         ensures ok { IfOk result (λ n. self.new ≡ record self.old { given = count_on self.old.given n }) }
         ensures err { OnErr result (self.new ≡ record self.old { faults = count_on self.old.faults 1 }) }
     {
@@ -95,6 +103,10 @@ impl<W: Write> Sink for StdSink<W> {
     fn write(&mut self, piece: &[u8]) -> Result<usize, SinkStop>
         ensures fits { IfOk result (λ n. n ≤ length piece.now) }
         ensures takes_some { IfOk result (λ n. n ≡ 0 → piece.now ≡ []) }
+        ensures never_falls { self.old ≤ self.new }
+        ensures failed { result ≡ Err SinkStop.Failed → HasRisen self.old self.new }
+
+        // Each stop is counted: an error of the writer, or that it took nothing.
         ensures ok { OnOk result (self.new ≡ self.old) }
         ensures err { OnErr result (self.new ≡ count_on self.old 1) }
         ensures failed_alone { IfErr result (λ stop. stop ≡ SinkStop.Failed) }
