@@ -64,7 +64,7 @@ pub fn read_all<S: Source>(alloc: Global, source: &mut S, limit: usize) -> Resul
 {
     let mut bytes = Vec::new(alloc);
     let mut buf = [0u8; 4096];
-    loop {
+    'turns: loop {
         let count = source.read(&mut buf)?;
         if count == 0 {
             return Ok(bytes);

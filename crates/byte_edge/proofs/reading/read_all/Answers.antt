@@ -8,9 +8,9 @@ returns-then-count-limit-clause-past g c =
     let chunk = take c.in_ok-count.count c.read.new.buf in
     let chunk_length : length chunk ≡ c.in_ok-count.count = length-take-le c.in_ok-count.count c.read.new.buf c.in_ok-count.ensures.fits in
     λ _. (
-      c.loop-bytes.bytes.items ++ chunk,
-      omega (arith, length-append c.loop-bytes.bytes.items chunk),
-      gives-append _ _ _ _ _ _ _ _ c.loop-bytes.invariant.gives c.in_ok-count.ensures.moved,
+      c.turns.bytes.items ++ chunk,
+      omega (arith, length-append c.turns.bytes.items chunk),
+      gives-append _ _ _ _ _ _ _ _ c.turns.invariant.gives c.in_ok-count.ensures.moved,
     )
 
 pub returns-in_err-extend_from_slice-clause-within : goal.returns-in_err-extend_from_slice-clause-within
@@ -18,7 +18,7 @@ returns-in_err-extend_from_slice-clause-within g c =
     let chunk = take c.in_ok-count.count c.read.new.buf in
     let chunk_length : length chunk ≡ c.in_ok-count.count = length-take-le c.in_ok-count.count c.read.new.buf c.in_ok-count.ensures.fits in
     λ _. (
-      c.loop-bytes.bytes.items ++ chunk,
-      omega (arith, length-append c.loop-bytes.bytes.items chunk),
-      gives-append _ _ _ _ _ _ _ _ c.loop-bytes.invariant.gives c.in_ok-count.ensures.moved,
+      c.turns.bytes.items ++ chunk,
+      omega (arith, length-append c.turns.bytes.items chunk),
+      gives-append _ _ _ _ _ _ _ _ c.turns.invariant.gives c.in_ok-count.ensures.moved,
     )

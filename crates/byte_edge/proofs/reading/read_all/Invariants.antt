@@ -3,8 +3,8 @@ use Rattle.std.specs.Prelude.{vec_len}
 use Rattle.byte_edge.proofs.SoFar.{GivesSoFar}
 use Rattle.byte_edge.proofs.reading.read_all.Given as goal
 
-abbrev pub invariant-loop-bytes : goal.invariant-loop-bytes
-invariant-loop-bytes g l = GivesSoFar l.limit (g.S.Source.left l.fn.source) (g.S.Source.left l.source) (g.S.Source.given l.fn.source) (g.S.Source.given l.source) (g.S.Source.faults l.fn.source) (g.S.Source.faults l.source) l.bytes.items
+abbrev pub invariant-turns : goal.invariant-turns
+invariant-turns g l = GivesSoFar l.limit (g.S.Source.left l.fn.source) (g.S.Source.left l.source) (g.S.Source.given l.fn.source) (g.S.Source.given l.source) (g.S.Source.faults l.fn.source) (g.S.Source.faults l.source) l.bytes.items
 
-abbrev pub decreases-loop-bytes : goal.decreases-loop-bytes
-decreases-loop-bytes g l = l.limit - vec_len l.bytes
+abbrev pub decreases-turns : goal.decreases-turns
+decreases-turns g l = l.limit - vec_len l.bytes
