@@ -1,7 +1,7 @@
 -- Bytes from the front of a list: those that were copied into a buffer, and those that were written.
 use Rattle.std.proofs.Common.{◌≡◌, ℕ, ◌+◌, ◌-◌, ◌<◌, ◌≤◌, ◌^◌, min, List, ◌++◌, length, take, drop, Some, None, Option, ap, sym, ◌∙◌, refl, [], arith, take-append-drop, length-drop}
 use Rattle.std.proofs.lemmas.List.{take_at, length-take-le, drop-drop, append_assoc, append-nil, take-take, drop-take, take_rest}
-use Rattle.std.specs.Io.KnownBytes.{prepend_known, append_known}
+use Rattle.std.specs.Io.KnownBytes.{append_known}
 use Rattle.byte_edge.specs.Given.{Gives}
 use Rattle.byte_edge.proofs.Counting.{count_on_within}
 

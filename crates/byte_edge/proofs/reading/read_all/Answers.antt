@@ -1,4 +1,4 @@
-use Rattle.std.proofs.Common.{ℕ, ◌≡◌, arith, length, length-append, ◌++◌, take}
+use Rattle.std.proofs.Common.{◌≡◌, arith, length, length-append, ◌++◌, take}
 use Rattle.std.proofs.lemmas.List.{length-take-le}
 use Rattle.byte_edge.proofs.SoFar.{gives-append}
 use Rattle.byte_edge.proofs.reading.read_all.Goals as goal

@@ -1,5 +1,4 @@
-use Rattle.std.proofs.Common.{◌-◌, ◌≡◌, ◌≤◌, length, take}
-use Rattle.std.specs.Io.KnownBytes.{append_known}
+use Rattle.std.proofs.Common.{◌-◌, length}
 use Rattle.byte_edge.proofs.Front.{PutsSoFar}
 use Rattle.byte_edge.proofs.writing.put_all.Given as goal
 
