@@ -1,0 +1,73 @@
+-- The entries of a history, from left to right.
+use Rattle.std.proofs.Common.{◌≡◌, ℕ, ◌+◌, ◌<◌, ◌≤◌, List, [], ◌∷◌, ◌++◌, length, take, drop, get_or, Option, Some, None, refl, sym, ap, subst, ◌∙◌, arith}
+use Rattle.std.proofs.lemmas.List.{take_more, drop_more, drop_all}
+use Rattle.std.proofs.lemmas.Grind.{fold-append}
+use Rattle.edit_rules.specs.declared.edits.Edit.{Edit}
+use Rattle.edit_rules.specs.declared.refusals.Refusal.{Refusal}
+use Rattle.edit_rules.specs.Refusals.{first_of, refusal_of}
+use Rattle.edit_rules.specs.Effects.{edited, scene_of}
+use Rattle.scene_model.specs.Diagram.{Diagram, empty_diagram}
+use Rattle.doc_book.specs.declared.entries.Entry.{Entry}
+use Rattle.doc_book.specs.declared.entries.Act.{Act}
+use Rattle.doc_book.specs.declared.entries.Act.TheVariants as act
+use Rattle.doc_book.specs.History.{scene_at, standing, edits_after}
+use Rattle.doc_book.specs.Verdicts.{verdict, ended_refusal, entries_refusal}
+use Rattle.doc_book.specs.Legal.{ActMayFollow, MayFollow, AllMayFollow}
+use Rattle.doc_book.specs.Listing.{text_lines, lines_of, entry_lines}
+use Rattle.listing_text.specs.Steps.{scene_after, IsAccepting}
+use Rattle.listing_text.proofs.Lines.{text_lines-append}
+
+-- ---- the scene
+
+scene_of_after : (edits : List Edit) (a : Act) → scene_of (edits_after edits a) ≡ scene_after (scene_of edits) a
+scene_of_after edits (act.Edit e) = fold-append (λ (d : Diagram) (x : Edit). edited x d) empty_diagram edits (e ∷ [])
+scene_of_after edits (act.Frame f) = refl
+scene_of_after edits act.End = refl
+
+pub scene_at-push : (h : List Entry) (e : Entry) → scene_at (h ++ e ∷ []) ≡ scene_after (scene_at h) e.act
+scene_at-push h e =
+    ap scene_of (fold-append (λ (edits : List Edit) (x : Entry). edits_after edits x.act) [] h (e ∷ []))
+    ∙ scene_of_after (standing h) e.act
+
+third_none : (a b c : Option Refusal) → first_of (a ∷ b ∷ c ∷ []) ≡ None → c ≡ None
+third_none None None None e = refl
+third_none None None (Some r) e = absurd cc
+third_none None (Some r) c e = absurd cc
+third_none (Some r) b c e = absurd cc
+
+accepts : (h : List Entry) (budget : ℕ) (e : Entry) (a : Act) → ActMayFollow h budget e a → IsAccepting (scene_at h) a
+accepts h budget e (act.Edit edit) may = third_none (ended_refusal h) (entries_refusal h) (refusal_of (scene_at h) edit) may
+accepts h budget e (act.Frame f) may = tt
+accepts h budget e act.End may = tt
+
+-- ---- a step
+
+module _ (h : List Entry) (k : ℕ) (e : Entry) (lt : k < length h) (is : e ≡ get_or h k e) where
+  rest : drop k h ≡ e ∷ drop (k + 1) h
+  rest = drop_more h k e lt ∙ ap (λ x. x ∷ drop (k + 1) h) (sym is)
+
+  front : take k h ++ e ∷ [] ≡ take (k + 1) h
+  front = ap (λ x. take k h ++ x ∷ []) is ∙ sym (take_more h k e lt)
+
+  pub entries_step : text_lines (entry_lines (take k h) k (drop k h))
+      ≡ text_lines (lines_of (scene_at (take k h)) k e) ++ text_lines (entry_lines (take (k + 1) h) (k + 1) (drop (k + 1) h))
+  entries_step =
+      ap (λ es. text_lines (entry_lines (take k h) k es)) rest
+      ∙ text_lines-append (lines_of (scene_at (take k h)) k e) (entry_lines (take k h ++ e ∷ []) (k + 1) (drop (k + 1) h))
+      ∙ ap (λ before. text_lines (lines_of (scene_at (take k h)) k e) ++ text_lines (entry_lines before (k + 1) (drop (k + 1) h))) front
+
+  pub scene_step : scene_at (take (k + 1) h) ≡ scene_after (scene_at (take k h)) e.act
+  scene_step = ap scene_at (sym front) ∙ scene_at-push (take k h) e
+
+  pub legal_here : (budget : ℕ) → AllMayFollow (take k h) budget (drop k h) → IsAccepting (scene_at (take k h)) e.act
+  legal_here budget legal =
+      let all : AllMayFollow (take k h) budget (e ∷ drop (k + 1) h) = subst (λ es. AllMayFollow (take k h) budget es) rest legal in
+      accepts (take k h) budget e e.act all.0
+
+  pub legal_step : (budget : ℕ) → AllMayFollow (take k h) budget (drop k h) → AllMayFollow (take (k + 1) h) budget (drop (k + 1) h)
+  legal_step budget legal =
+      let all : AllMayFollow (take k h) budget (e ∷ drop (k + 1) h) = subst (λ es. AllMayFollow (take k h) budget es) rest legal in
+      subst (λ before. AllMayFollow before budget (drop (k + 1) h)) front all.1
+
+pub entries_end : (h : List Entry) (k : ℕ) → length h ≤ k → text_lines (entry_lines (take k h) k (drop k h)) ≡ []
+entries_end h k le = ap (λ es. text_lines (entry_lines (take k h) k es)) (drop_all k h le)

@@ -1,0 +1,5 @@
+pub mod History
+pub mod Lines
+pub mod Puts
+mod Rows
+pub mod Sessions

@@ -1,0 +1,112 @@
+-- Lines of words, and the lists that give them.
+use Rattle.std.proofs.Common.{◌≡◌, ℕ, zero, suc, ◌+◌, ◌<◌, ◌≤◌, ℤ, List, [], ◌∷◌, ◌++◌, length, take, drop, get_or, refl, sym, ap, ◌∙◌, append_assoc, arith, length-append, eq-eqb, ne_eqb}
+use Rattle.std.specs.Prelude.{codes, decimal, filter, ◌==◌, true, false, Bool, cond}
+use Rattle.std.specs.Fmt.{signed_decimal}
+use Rattle.std.proofs.lemmas.List.{append-nil}
+use Rattle.units.specs.declared.geometry.Axis.{Axis}
+use Rattle.scene_model.specs.declared.variables.Variable.{Variable}
+use Rattle.script_text.specs.Words.{Word, spaced}
+use Rattle.script_text.specs.Commands.{command_words, command_word, command_fields, fields_words, edit_words}
+use Rattle.script_text.specs.declared.scripts.Line.{Line}
+use Rattle.script_text.specs.declared.scripts.Command.{Command}
+use Rattle.doc_book.specs.declared.replies.Reply.{Reply}
+use Rattle.doc_book.specs.Listing.{text_line, text_lines, axis_word, variable_word, place_lines, reply_lines, reply_words, session_lines}
+use Rattle.listing_text.specs.Words.{behind}
+
+pub text_lines-append : (ls ms : List (List Word)) → text_lines (ls ++ ms) ≡ text_lines ls ++ text_lines ms
+text_lines-append [] ms = refl
+text_lines-append (l ∷ ls) ms = ap (λ bytes. text_line l ++ bytes) (text_lines-append ls ms) ∙ sym (append_assoc (text_line l) (text_lines ls) (text_lines ms))
+
+-- a line has its LF
+pub some_line : (words : List Word) (more : List ℕ) → 0 < length (text_line words ++ more)
+some_line words more =
+    let count = length-append (text_line words) more in
+    let first = length-append (spaced words) (10 ∷ []) in
+    omega (arith, count, first)
+
+pub spaced_behind : (w : Word) (ws : List Word) → spaced (w ∷ ws) ≡ w ++ behind ws
+spaced_behind w [] = sym (append-nil w)
+spaced_behind w (v ∷ ws) = ap (λ bytes. w ++ 32 ∷ bytes) (spaced_behind v ws)
+
+pub behind-append : (vs ws : List Word) → behind (vs ++ ws) ≡ behind vs ++ behind ws
+behind-append [] ws = refl
+behind-append (v ∷ vs) ws = ap (λ bytes. 32 ∷ v ++ bytes) (behind-append vs ws) ∙ ap (λ bytes. 32 ∷ bytes) (sym (append_assoc v (behind vs) (behind ws)))
+
+-- a space and words divided by one space
+pub behind_spaced : (w : Word) (ws : List Word) → 32 ∷ spaced (w ∷ ws) ≡ behind (w ∷ ws)
+behind_spaced w ws = ap (λ bytes. 32 ∷ bytes) (spaced_behind w ws)
+
+pub behind_one : (w : Word) → 32 ∷ w ≡ behind (w ∷ [])
+behind_one w = ap (λ bytes. 32 ∷ bytes) (sym (append-nil w))
+
+-- a line that is made from left to right
+pub made_line : (t₀ t₁ t₂ t₃ t₄ t₅ : List ℕ) (a b c : Word) (ws : List Word) → t₁ ≡ t₀ ++ a → t₂ ≡ t₁ ++ 32 ∷ b → t₃ ≡ t₂ ++ 32 ∷ c → t₄ ≡ t₃ ++ behind ws → t₅ ≡ t₄ ++ 10 ∷ []
+    → t₅ ≡ t₀ ++ text_line (a ∷ b ∷ c ∷ ws)
+made_line t₀ t₁ t₂ t₃ t₄ t₅ a b c ws e₁ e₂ e₃ e₄ e₅ =
+    rw (spaced_behind a (b ∷ c ∷ ws), e₅, e₄, e₃, e₂, e₁) (simp append_assoc refl)
+
+-- two lists of words, with a word between them
+pub made_words : (t₂ t₃ t₄ t₅ : List ℕ) (c : Word) (cs : List Word) (q : Word) (rs : List Word)
+    → t₃ ≡ t₂ ++ 32 ∷ spaced (c ∷ cs) → t₄ ≡ t₃ ++ 32 ∷ q → t₅ ≡ t₄ ++ behind rs → t₅ ≡ t₂ ++ behind (c ∷ (cs ++ q ∷ rs))
+made_words t₂ t₃ t₄ t₅ c cs q rs e₃ e₄ e₅ =
+    e₅ ∙ ap (λ t. t ++ behind rs) (e₄ ∙ ap (λ t. t ++ 32 ∷ q) e₃)
+    ∙ append_assoc (t₂ ++ 32 ∷ spaced (c ∷ cs)) (32 ∷ q) (behind rs)
+    ∙ append_assoc t₂ (32 ∷ spaced (c ∷ cs)) (behind (q ∷ rs))
+    ∙ ap (λ bytes. t₂ ++ bytes) (ap (λ bytes. bytes ++ behind (q ∷ rs)) (behind_spaced c cs) ∙ sym (behind-append (c ∷ cs) (q ∷ rs)))
+
+-- the line of a reply is made from left to right
+pub made_reply : (t₁ t₂ t₅ t₆ : List ℕ) (a b : Word) (ws : List Word) → t₁ ≡ a → t₂ ≡ t₁ ++ 32 ∷ b → t₅ ≡ t₂ ++ behind ws → t₆ ≡ t₅ ++ 10 ∷ []
+    → t₆ ≡ text_line (a ∷ b ∷ ws)
+made_reply t₁ t₂ t₅ t₆ a b ws e₁ e₂ e₅ e₆ = rw (spaced_behind a (b ∷ ws), e₆, e₅, e₂, e₁) (simp append_assoc refl)
+
+-- ---- the lines of the variables of an axis
+
+pub place_lines_step : (axis : Axis) (vs : List Variable) (ds ps : List ℤ) (v : Variable) (d p : ℤ) (vs' : List Variable) (ds' ps' : List ℤ)
+    → vs ≡ v ∷ vs' → ds ≡ d ∷ ds' → ps ≡ p ∷ ps'
+    → text_lines (place_lines axis vs ds ps) ≡ text_line (axis_word axis ∷ variable_word v.name ∷ signed_decimal d ∷ signed_decimal p ∷ []) ++ text_lines (place_lines axis vs' ds' ps')
+place_lines_step axis vs ds ps v d p vs' ds' ps' a b c = rw (a, b, c) refl
+
+no_variables : (axis : Axis) (ds ps : List ℤ) → place_lines axis [] ds ps ≡ []
+no_variables axis ds ps = refl
+
+no_desired : (axis : Axis) (vs : List Variable) (ps : List ℤ) → place_lines axis vs [] ps ≡ []
+no_desired axis [] ps = refl
+no_desired axis (v ∷ vs) ps = refl
+
+no_places : (axis : Axis) (vs : List Variable) (ds : List ℤ) → place_lines axis vs ds [] ≡ []
+no_places axis [] ds = refl
+no_places axis (v ∷ vs) [] = refl
+no_places axis (v ∷ vs) (d ∷ ds) = refl
+
+-- no line is left where one of the lists is at its end
+pub no_lines_variables : (axis : Axis) (vs : List Variable) (ds ps : List ℤ) → vs ≡ [] → text_lines (place_lines axis vs ds ps) ≡ []
+no_lines_variables axis vs ds ps e = rw e (ap text_lines (no_variables axis ds ps))
+
+pub no_lines_desired : (axis : Axis) (vs : List Variable) (ds ps : List ℤ) → ds ≡ [] → text_lines (place_lines axis vs ds ps) ≡ []
+no_lines_desired axis vs ds ps e = rw e (ap text_lines (no_desired axis vs ps))
+
+pub no_lines_places : (axis : Axis) (vs : List Variable) (ds ps : List ℤ) → ps ≡ [] → text_lines (place_lines axis vs ds ps) ≡ []
+no_lines_places axis vs ds ps e = rw e (ap text_lines (no_places axis vs ds))
+
+-- ---- the lines of the replies to a session's lines
+
+pub reply_lines_step : (session : ℕ) (ls : List Line) (rs : List Reply) (l : Line) (r : Reply) (ls' : List Line) (rs' : List Reply)
+    → ls ≡ l ∷ ls' → rs ≡ r ∷ rs' → l.session ≡ session
+    → text_lines (reply_lines session (session_lines session ls) rs)
+      ≡ text_line (decimal session ∷ decimal l.number ∷ (command_words l.command ++ codes "=" ∷ reply_words r)) ++ text_lines (reply_lines session (session_lines session ls') rs')
+reply_lines_step session ls rs l r ls' rs' a b is = let same : (l.session == session) ≡ true = eq-eqb l.session session is in rw (a, b, same) refl
+
+pub reply_lines_other : (session : ℕ) (ls : List Line) (rs : List Reply) (l : Line) (ls' : List Line)
+    → ls ≡ l ∷ ls' → (l.session ≡ session → ⊥)
+    → text_lines (reply_lines session (session_lines session ls) rs) ≡ text_lines (reply_lines session (session_lines session ls') rs)
+reply_lines_other session ls rs l ls' a other = let differ : (l.session == session) ≡ false = ne_eqb l.session session other in rw (a, differ) refl
+
+no_replies : (session : ℕ) (ls : List Line) → reply_lines session ls [] ≡ []
+no_replies session [] = refl
+no_replies session (l ∷ ls) = refl
+
+pub no_lines_replies : (session : ℕ) (ls : List Line) (rs : List Reply) → rs ≡ [] → text_lines (reply_lines session ls rs) ≡ []
+no_lines_replies session ls rs e = rw e (ap text_lines (no_replies session ls))
+
+pub no_lines_session : (session : ℕ) (ls : List Line) (rs : List Reply) → ls ≡ [] → text_lines (reply_lines session (session_lines session ls) rs) ≡ []
+no_lines_session session ls rs e = rw e refl

@@ -1,0 +1,54 @@
+-- The texts of worked listings, by computation.
+use Rattle.std.specs.Prelude.{◌≡◌, ℕ, ℤ, pos, List, [], ◌∷◌, codes, refl}
+use Rattle.std.specs.Fmt.{digits}
+use Rattle.scene_model.specs.declared.items.Form.TheVariants.{Box}
+use Rattle.edit_rules.specs.declared.edits.Edit.{Edit}
+use Rattle.edit_rules.specs.declared.edits.Edit.TheVariants as edit
+use Rattle.frame_store.specs.declared.frames.Frame.{Frame}
+use Rattle.script_text.specs.declared.scripts.Command.TheVariants as command
+use Rattle.script_text.specs.declared.scripts.Line.{Line}
+use Rattle.doc_book.specs.declared.entries.Entry.{Entry}
+use Rattle.doc_book.specs.declared.entries.Act.TheVariants as act
+use Rattle.doc_book.specs.declared.replies.Reply.{Reply}
+use Rattle.doc_book.specs.declared.replies.Reply.TheVariants as reply
+use Rattle.doc_book.specs.Listing.{listing_text}
+
+no_replies : List (List Reply)
+no_replies = [] ∷ [] ∷ [] ∷ [] ∷ [] ∷ [] ∷ [] ∷ [] ∷ []
+
+abbrev nothing : Frame
+nothing = record { desired = record { x = []; y = [] }; places = record { x = []; y = [] } }
+
+abbrev end : Entry
+end = record { who = 0; line = 0; act = act.End }
+
+abbrev finishing : Frame → Entry
+finishing f = record { who = 0; line = 0; act = act.Frame f }
+
+-- a script without lines: End, and the frame of nothing
+empty_script : listing_text [] (end ∷ finishing nothing ∷ []) no_replies ≡ codes "listing 1\n0 0 0 end\n1 0 0 frame\nreplies\ndone\n"
+unfolding digits no_replies
+empty_script = refl
+
+abbrev a_box : Edit
+a_box = edit.Put (codes "a") Box (pos 3) (pos 4) (pos 40) (pos 20)
+
+abbrev one_frame : Frame
+one_frame = record { desired = record { x = pos 3 ∷ []; y = pos 4 ∷ [] }; places = record { x = pos 3 ∷ []; y = pos 4 ∷ [] } }
+
+abbrev script : List Line
+script =
+    record { number = 2; session = 1; command = command.Edit a_box } ∷ record { number = 3; session = 1; command = command.Layout }
+    ∷ record { number = 4; session = 1; command = command.Layout } ∷ []
+
+abbrev history : List Entry
+history = record { who = 1; line = 2; act = act.Edit a_box } ∷ record { who = 1; line = 3; act = act.Frame one_frame } ∷ end ∷ finishing one_frame ∷ []
+
+abbrev replies : List (List Reply)
+replies = (reply.Accepted 0 ∷ reply.Published 1 ∷ reply.Idle 2 ∷ []) ∷ [] ∷ [] ∷ [] ∷ [] ∷ [] ∷ [] ∷ [] ∷ []
+
+-- a box, a layout, and a layout with nothing left to do
+first_box : listing_text script history replies
+    ≡ codes "listing 1\n0 1 2 box a 3 4 40 20\n1 1 3 frame\nx a 3 3\ny a 4 4\n2 0 0 end\n3 0 0 frame\nx a 3 3\ny a 4 4\nreplies\n1 2 box a 3 4 40 20 = accepted 0\n1 3 layout = published 1\n1 4 layout = idle 2\ndone\n"
+unfolding digits
+first_box = refl

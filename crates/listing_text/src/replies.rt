@@ -1,0 +1,152 @@
+//! The lines of the replies.
+ghost use Rattle.std.specs.Prelude.{◌≡◌, ◌∷◌, ◌++◌, [], codes, decimal, IfOk, OnOk};
+ghost use Rattle.script_text.specs.Commands.{command_words};
+ghost use Rattle.doc_book.specs.Listing.{counted_word, refusal_words, reply_words, text_line, text_lines, reply_lines, session_lines, sessions_lines};
+ghost use Rattle.listing_text.specs.Words.{behind};
+ghost use Rattle.listing_text.specs.Putting.{Puts};
+
+use crate::putting::put;
+use crate::words::{add_count, add_number, add_word, begin_with};
+use byte_edge::{Sink, SinkStop};
+use doc_book::Reply;
+use edit_rules::{Counted, Refusal};
+use script_text::{command_text, Line};
+use std::alloc::{AllocError, Global};
+use units::{Memory, Sequence};
+
+fn counted_word(what: Counted) -> &'static [u8]
+    ensures { result.now ≡ counted_word what }
+{
+    match what {
+        Counted::Shapes => b"shapes",
+        Counted::Entries => b"entries",
+    }
+}
+
+/// Adds the words of a refusal.
+fn add_refusal(text: &mut Vec<u8>, refusal: &Refusal) -> Result<(), AllocError>
+    ensures { OnOk result (text.new.items ≡ text.old.items ++ behind (refusal_words refusal.now)) }
+{
+    match refusal {
+        Refusal::Range { value } => {
+            add_word(text, b"range")?;
+            add_number(text, i64::from(*value))
+        }
+        Refusal::Taken { name } => {
+            add_word(text, b"taken")?;
+            add_word(text, name.bytes())
+        }
+        Refusal::Limit { what, count } => {
+            add_word(text, b"limit")?;
+            add_word(text, counted_word(*what))?;
+            add_count(text, *count)
+        }
+        Refusal::Ended { place } => {
+            add_word(text, b"ended")?;
+            add_count(text, *place)
+        }
+        Refusal::Memory => Ok(()),
+    }
+}
+
+/// Adds a word and a count.
+fn add_counted(text: &mut Vec<u8>, word: &[u8], count: u32) -> Result<(), AllocError>
+    ensures { OnOk result (text.new.items ≡ text.old.items ++ behind (word.now ∷ decimal count ∷ [])) }
+{
+    add_word(text, word)?;
+    add_count(text, count)
+}
+
+/// Adds the words of a reply.
+fn add_reply(text: &mut Vec<u8>, reply: &Reply) -> Result<(), AllocError>
+    ensures { OnOk result (text.new.items ≡ text.old.items ++ behind (reply_words reply.now)) }
+{
+    match reply {
+        Reply::Accepted { place } => add_counted(text, b"accepted", *place),
+        Reply::Published { place } => add_counted(text, b"published", *place),
+        Reply::Refused(refused) => {
+            add_counted(text, b"refused", refused.front)?;
+            add_refusal(text, &refused.refusal)
+        }
+        Reply::Idle { front } => add_counted(text, b"idle", *front),
+        Reply::Spent { front } => add_counted(text, b"spent", *front),
+    }
+}
+
+/// The line of a reply: the session, the number of the line, its command, and the reply.
+fn reply_text(
+    alloc: Global,
+    session: usize,
+    line: &Line,
+    reply: &Reply,
+) -> Result<Vec<u8>, Memory>
+    ensures { IfOk result (λ text. text.items
+        ≡ text_line (decimal session ∷ decimal line.now.number ∷ (command_words line.now.command ++ codes "=" ∷ reply_words reply.now))) }
+{
+    let mut text = Vec::new(alloc);
+    begin_with(&mut text, session)?;
+    add_count(&mut text, line.number)?;
+    add_word(&mut text, &command_text(alloc, &line.command)?)?;
+    add_word(&mut text, b"=")?;
+    add_reply(&mut text, reply)?;
+    text.push(b'\n')?;
+    Ok(text)
+}
+
+/// Puts the line of a reply.
+fn put_reply<K: Sink>(
+    alloc: Global,
+    session: usize,
+    line: &Line,
+    reply: &Reply,
+    sink: &mut K,
+) -> Result<(), SinkStop>
+    ensures { Puts (K.put sink.old) (K.put sink.new) (K.faults sink.old) (K.faults sink.new)
+        (text_line (decimal session ∷ decimal line.now.number ∷ (command_words line.now.command ++ codes "=" ∷ reply_words reply.now))) result }
+{
+    let Ok(text) = reply_text(alloc, session, line, reply) else {
+        return Err(SinkStop::Memory);
+    };
+    put(sink, &text)
+}
+
+/// Puts the lines of the replies to a session's lines.
+fn put_session<K: Sink>(
+    alloc: Global,
+    session: usize,
+    lines: &[Line],
+    replies: &[Reply],
+    sink: &mut K,
+) -> Result<(), SinkStop>
+    ensures { Puts (K.put sink.old) (K.put sink.new) (K.faults sink.old) (K.faults sink.new)
+        (text_lines (reply_lines session (session_lines session lines.now) replies.now)) result }
+{
+    let mut next = 0;
+    for at in 0..lines.len() {
+        if usize::from(lines[at].session) != session {
+            continue;
+        }
+        if next >= replies.len() {
+            return Ok(());
+        }
+        put_reply(alloc, session, &lines[at], &replies[next], sink)?;
+        next += 1;
+    }
+    Ok(())
+}
+
+/// Puts the lines of the replies to the lines of each session, session 1 first.
+pub fn put_replies<K: Sink>(
+    alloc: Global,
+    lines: &[Line],
+    replies: &[Sequence<Reply>],
+    sink: &mut K,
+) -> Result<(), SinkStop>
+    ensures { Puts (K.put sink.old) (K.put sink.new) (K.faults sink.old) (K.faults sink.new)
+        (text_lines (sessions_lines 1 lines.now replies.now)) result }
+{
+    for index in 0..replies.len() {
+        put_session(alloc, index + 1, lines, replies[index].as_slice(), sink)?;
+    }
+    Ok(())
+}
