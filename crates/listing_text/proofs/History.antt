@@ -56,6 +56,10 @@ module _ (h : List Entry) (k : ℕ) (e : Entry) (lt : k < length h) (is : e ≡ 
       ∙ text_lines-append (lines_of (scene_at (take k h)) k e) (entry_lines (take k h ++ e ∷ []) (k + 1) (drop (k + 1) h))
       ∙ ap (λ before. text_lines (lines_of (scene_at (take k h)) k e) ++ text_lines (entry_lines before (k + 1) (drop (k + 1) h))) front
 
+  pub entry_put : (scene : Diagram) → scene ≡ scene_at (take k h) → text_lines (entry_lines (take k h) k (drop k h))
+      ≡ text_lines (lines_of scene k e) ++ text_lines (entry_lines (take (k + 1) h) (k + 1) (drop (k + 1) h))
+  entry_put scene of = entries_step ∙ ap (λ s. text_lines (lines_of s k e) ++ text_lines (entry_lines (take (k + 1) h) (k + 1) (drop (k + 1) h))) (sym of)
+
   pub scene_step : scene_at (take (k + 1) h) ≡ scene_after (scene_at (take k h)) e.act
   scene_step = ap scene_at (sym front) ∙ scene_at-push (take k h) e
 

@@ -18,3 +18,9 @@ sessions_step script all k rs lt is =
 
 pub sessions_end : (script : List Line) (all : List (List Reply)) (k : ℕ) → length all ≤ k → text_lines (sessions_lines (k + 1) script (drop k all)) ≡ []
 sessions_end script all k le = ap (λ more. text_lines (sessions_lines (k + 1) script more)) (drop_all k all le)
+
+-- the same, where the replies were taken from the list
+pub sessions_step_by : (script : List Line) (all : List (List Reply)) (k : ℕ) (rs : List Reply) → k < length all → rs ≡ get_or all k rs → (taken : List Reply) → taken ≡ rs
+    → text_lines (sessions_lines (k + 1) script (drop k all))
+      ≡ text_lines (reply_lines (k + 1) (session_lines (k + 1) script) taken) ++ text_lines (sessions_lines (k + 1 + 1) script (drop (k + 1) all))
+sessions_step_by script all k rs lt is taken same = rw same (sessions_step script all k rs lt is)

@@ -45,7 +45,10 @@ fn add_places(
 {
     for var in 0..scene.vars(axis) {
         let at = usize::from(var);
-        if at >= desired.len() || at >= places.len() {
+        if at >= desired.len() {
+            return Ok(());
+        }
+        if at >= places.len() {
             return Ok(());
         }
         let variable = scene.variable(axis, var);

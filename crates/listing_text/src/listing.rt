@@ -5,6 +5,7 @@ ghost use Rattle.byte_edge.specs.Count.{HasRisen};
 ghost use Rattle.byte_edge.specs.Taken.{TakesPart};
 ghost use Rattle.byte_edge.specs.declared.sink.SinkStop.TheVariants as stop;
 ghost use Rattle.doc_book.specs.Listing.{listing_text};
+ghost use Rattle.listing_text.specs.Putting.{Puts};
 
 use crate::entries::put_entries;
 use crate::putting::put;
@@ -14,6 +15,23 @@ use doc_book::{Book, Reply};
 use script_text::Script;
 use std::alloc::Global;
 use units::Sequence;
+
+/// Puts the listing.
+fn put_listing<K: Sink>(
+    alloc: Global,
+    book: &Book,
+    script: &Script,
+    replies: &[Sequence<Reply>],
+    sink: &mut K,
+) -> Result<(), SinkStop>
+    ensures { Puts (K.put sink.old) (K.put sink.new) (K.faults sink.old) (K.faults sink.new) (listing_text script.now book.now.history replies.now) result }
+{
+    put(sink, b"listing 1\n")?;
+    put_entries(alloc, book.history(), sink)?;
+    put(sink, b"replies\n")?;
+    put_replies(alloc, script.lines(), replies, sink)?;
+    put(sink, b"done\n")
+}
 
 /// Writes the listing of a book, a script and the replies to its lines, by session, session 1 first. It names the
 /// variables of a frame by the scene of the history before it. Where a session has more lines than replies, or more
@@ -37,9 +55,5 @@ pub fn write_listing<K: Sink>(
     ensures memory_calm { result ≡ Err stop.Memory → K.faults sink.new ≡ K.faults sink.old }
     ensures never_falls { K.faults sink.old ≤ K.faults sink.new }
 {
-    put(sink, b"listing 1\n")?;
-    put_entries(alloc, book.history(), sink)?;
-    put(sink, b"replies\n")?;
-    put_replies(alloc, script.lines(), replies, sink)?;
-    put(sink, b"done\n")
+    put_listing(alloc, book, script, replies, sink)
 }

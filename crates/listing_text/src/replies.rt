@@ -123,13 +123,14 @@ fn put_session<K: Sink>(
 {
     let mut next = 0;
     for at in 0..lines.len() {
-        if usize::from(lines[at].session) != session {
+        let line = &lines[at];
+        if usize::from(line.session) != session {
             continue;
         }
         if next >= replies.len() {
             return Ok(());
         }
-        put_reply(alloc, session, &lines[at], &replies[next], sink)?;
+        put_reply(alloc, session, line, &replies[next], sink)?;
         next += 1;
     }
     Ok(())
