@@ -9,3 +9,6 @@ mod replies;
 mod words;
 
 pub use listing::write_listing;
+
+#[cfg(test)]
+mod tests;
