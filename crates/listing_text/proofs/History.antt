@@ -1,5 +1,5 @@
 -- The entries of a history, from left to right.
-use Rattle.std.proofs.Common.{◌≡◌, ℕ, ◌+◌, ◌<◌, ◌≤◌, List, [], ◌∷◌, ◌++◌, length, take, drop, get_or, Option, Some, None, refl, sym, ap, subst, ◌∙◌, arith}
+use Rattle.std.proofs.Common.{◌≡◌, ℕ, ◌+◌, ◌<◌, ◌≤◌, List, [], ◌∷◌, ◌++◌, length, take, drop, get_or, Option, Some, None, refl, sym, ap, subst, ◌∙◌}
 use Rattle.std.proofs.lemmas.List.{take_more, drop_more, drop_all}
 use Rattle.std.proofs.lemmas.Grind.{fold-append}
 use Rattle.edit_rules.specs.declared.edits.Edit.{Edit}
@@ -11,8 +11,8 @@ use Rattle.doc_book.specs.declared.entries.Entry.{Entry}
 use Rattle.doc_book.specs.declared.entries.Act.{Act}
 use Rattle.doc_book.specs.declared.entries.Act.TheVariants as act
 use Rattle.doc_book.specs.History.{scene_at, standing, edits_after}
-use Rattle.doc_book.specs.Verdicts.{verdict, ended_refusal, entries_refusal}
-use Rattle.doc_book.specs.Legal.{ActMayFollow, MayFollow, AllMayFollow}
+use Rattle.doc_book.specs.Verdicts.{ended_refusal, entries_refusal}
+use Rattle.doc_book.specs.Legal.{ActMayFollow, AllMayFollow}
 use Rattle.doc_book.specs.Listing.{text_lines, lines_of, entry_lines}
 use Rattle.listing_text.specs.Steps.{scene_after, IsAccepting}
 use Rattle.listing_text.proofs.Lines.{text_lines-append}

@@ -1,5 +1,5 @@
 -- Lines of words, and the lists that give them.
-use Rattle.std.proofs.Common.{◌≡◌, ℕ, zero, suc, ◌+◌, ◌<◌, ◌≤◌, ℤ, List, [], ◌∷◌, ◌++◌, length, take, drop, get_or, refl, sym, ap, ◌∙◌, append_assoc, arith, length-append, eq-eqb, ne_eqb}
+use Rattle.std.proofs.Common.{◌≡◌, ℕ, ◌+◌, ◌<◌, ℤ, List, [], ◌∷◌, ◌++◌, length, drop, get_or, refl, sym, ap, ◌∙◌, append_assoc, arith, length-append, eq-eqb, ne_eqb}
 use Rattle.std.specs.Prelude.{codes, decimal, ◌==◌, true, false, slice_get, Some, pos}
 use Rattle.std.specs.Fmt.{signed_decimal}
 use Rattle.std.proofs.lemmas.List.{append-nil, drop_more}
@@ -7,9 +7,8 @@ use Rattle.std.proofs.lemmas.Option.{get_or_from_slice_get, slice_get_within}
 use Rattle.units.specs.declared.geometry.Axis.{Axis}
 use Rattle.scene_model.specs.declared.variables.Variable.{Variable}
 use Rattle.script_text.specs.Words.{Word, spaced}
-use Rattle.script_text.specs.Commands.{command_words, command_word, command_fields, fields_words, edit_words}
+use Rattle.script_text.specs.Commands.{command_words}
 use Rattle.script_text.specs.declared.scripts.Line.{Line}
-use Rattle.script_text.specs.declared.scripts.Command.{Command}
 use Rattle.doc_book.specs.declared.replies.Reply.{Reply}
 use Rattle.doc_book.specs.declared.entries.Entry.{Entry}
 use Rattle.doc_book.specs.Listing.{text_line, text_lines, axis_word, variable_word, place_lines, reply_lines, reply_words, session_lines, entry_lines, sessions_lines, listing_text}
@@ -93,8 +92,8 @@ no_lines_places axis vs ds ps e = rw e (ap text_lines (no_places axis vs ds))
 -- the lines from a variable on
 pub places_more : (axis : Axis) (vs : List Variable) (ds ps : List ℤ) (k at : ℕ) (v : Variable) → at ≡ k → slice_get vs k ≡ Some v → at < length ds → at < length ps
     → text_lines (place_lines axis (drop k vs) (drop k ds) (drop k ps))
-      ≡ text_line (axis_word axis ∷ variable_word v.name ∷ signed_decimal (get_or ds at (pos 0)) ∷ signed_decimal (get_or ps at (pos 0)) ∷ [])
-        ++ text_lines (place_lines axis (drop (k + 1) vs) (drop (k + 1) ds) (drop (k + 1) ps))
+    ≡ text_line (axis_word axis ∷ variable_word v.name ∷ signed_decimal (get_or ds at (pos 0)) ∷ signed_decimal (get_or ps at (pos 0)) ∷ [])
+    ++ text_lines (place_lines axis (drop (k + 1) vs) (drop (k + 1) ds) (drop (k + 1) ps))
 places_more axis vs ds ps k at v same here on_d on_p =
     let a : drop k vs ≡ v ∷ drop (k + 1) vs = drop_more vs k v (slice_get_within vs k v here) ∙ ap (λ x. x ∷ drop (k + 1) vs) (get_or_from_slice_get vs k v v here) in
     let b : drop k ds ≡ get_or ds at (pos 0) ∷ drop (k + 1) ds = drop_more ds k (pos 0) (omega (arith, same, on_d)) ∙ ap (λ n. get_or ds n (pos 0) ∷ drop (k + 1) ds) (sym same) in
@@ -115,7 +114,7 @@ is_whole text rest whole none so_far = sym (append-nil text) ∙ ap (λ bytes. t
 pub reply_lines_step : (session : ℕ) (ls : List Line) (rs : List Reply) (l : Line) (r : Reply) (ls' : List Line) (rs' : List Reply)
     → ls ≡ l ∷ ls' → rs ≡ r ∷ rs' → l.session ≡ session
     → text_lines (reply_lines session (session_lines session ls) rs)
-      ≡ text_line (decimal session ∷ decimal l.number ∷ (command_words l.command ++ codes "=" ∷ reply_words r)) ++ text_lines (reply_lines session (session_lines session ls') rs')
+    ≡ text_line (decimal session ∷ decimal l.number ∷ (command_words l.command ++ codes "=" ∷ reply_words r)) ++ text_lines (reply_lines session (session_lines session ls') rs')
 reply_lines_step session ls rs l r ls' rs' a b is = let same : (l.session == session) ≡ true = eq-eqb l.session session is in rw (a, b, same) refl
 
 pub reply_lines_other : (session : ℕ) (ls : List Line) (rs : List Reply) (l : Line) (ls' : List Line)
@@ -137,11 +136,11 @@ no_lines_session session ls rs e = rw e refl
 
 pub listing_parts : (script : List Line) (h : List Entry) (replies : List (List Reply))
     → listing_text script h replies
-      ≡ codes "listing 1\n" ++ (text_lines (entry_lines [] 0 h) ++ (codes "replies\n" ++ (text_lines (sessions_lines 1 script replies) ++ codes "done\n")))
+    ≡ codes "listing 1\n" ++ (text_lines (entry_lines [] 0 h) ++ (codes "replies\n" ++ (text_lines (sessions_lines 1 script replies) ++ codes "done\n")))
 listing_parts script h replies =
     let entries = entry_lines [] 0 h in
     let below = sessions_lines 1 script replies in
     ap (λ bytes. codes "listing 1\n" ++ bytes)
-      (text_lines-append (entries ++ (codes "replies" ∷ []) ∷ below) ((codes "done" ∷ []) ∷ [])
-      ∙ ap (λ bytes. bytes ++ codes "done\n") (text_lines-append entries ((codes "replies" ∷ []) ∷ below))
-      ∙ append_assoc (text_lines entries) (text_lines ((codes "replies" ∷ []) ∷ below)) (codes "done\n"))
+    (text_lines-append (entries ++ (codes "replies" ∷ []) ∷ below) ((codes "done" ∷ []) ∷ [])
+    ∙ ap (λ bytes. bytes ++ codes "done\n") (text_lines-append entries ((codes "replies" ∷ []) ∷ below))
+    ∙ append_assoc (text_lines entries) (text_lines ((codes "replies" ∷ []) ∷ below)) (codes "done\n"))

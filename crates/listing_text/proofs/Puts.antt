@@ -1,5 +1,5 @@
 -- Texts that are put piece by piece.
-use Rattle.std.proofs.Common.{◌≡◌, ℕ, ◌+◌, ◌<◌, ◌≤◌, List, [], ◌∷◌, ◌++◌, length, take, Option, Some, None, Result, Ok, Err, refl, sym, ap, subst, ◌∙◌, append_assoc, arith, length-append}
+use Rattle.std.proofs.Common.{◌≡◌, ℕ, ◌+◌, ◌<◌, ◌≤◌, List, [], ◌++◌, length, take, Option, Some, None, Result, Ok, Err, refl, sym, ap, subst, ◌∙◌, append_assoc, arith, length-append}
 use Rattle.std.proofs.lemmas.List.{append-nil, take-append-le}
 use Rattle.std.proofs.Math.Seq.{take-append-add}
 use Rattle.std.specs.Io.KnownBytes.{append_known}
@@ -46,10 +46,11 @@ takes_part : (put put' put'' : Option (List ℕ)) (text done piece rest : List �
     → TakesPart put' put'' piece → TakesPart put put'' text
 takes_part put put' put'' text done piece rest grown split part =
     let count : length text ≡ length done + (length piece + length rest) = ap length split ∙ length-append done (piece ++ rest) ∙ ap (λ n. length done + n) (length-append piece rest) in
-    let front : take (length done + part.0) text ≡ done ++ take part.0 piece = ap (λ bytes. take (length done + part.0) bytes) split ∙ part_of done piece rest part.0 part.1 in
-    (length done + part.0,
+    let front : take (length done + part.0) text ≡ done ++ take part.0 piece = ap (λ bytes. take (length done + part.0) bytes) split ∙ part_of done piece rest part.0 part.1 in (
+      length done + part.0,
       omega (arith, count, part.1),
-        part.2 ∙ ap (λ known. append_known known (take part.0 piece)) grown ∙ append_known-append_known put done (take part.0 piece) ∙ ap (append_known put) (sym front))
+      part.2 ∙ ap (λ known. append_known known (take part.0 piece)) grown ∙ append_known-append_known put done (take part.0 piece) ∙ ap (append_known put) (sym front),
+    )
 
 -- a stop in a piece
 pub stopped : (put put' put'' : Option (List ℕ)) (faults faults' faults'' : ℕ) (text rest piece rest' : List ℕ) (why : SinkStop)

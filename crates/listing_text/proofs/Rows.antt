@@ -1,5 +1,5 @@
 -- The texts of worked listings, by computation.
-use Rattle.std.specs.Prelude.{◌≡◌, ℕ, ℤ, pos, List, [], ◌∷◌, codes, refl}
+use Rattle.std.specs.Prelude.{◌≡◌, pos, List, [], ◌∷◌, codes, refl}
 use Rattle.std.specs.Fmt.{digits}
 use Rattle.scene_model.specs.declared.items.Form.TheVariants.{Box}
 use Rattle.edit_rules.specs.declared.edits.Edit.{Edit}

@@ -99,11 +99,7 @@ fn put_entry<K: Sink>(
 }
 
 /// Puts the lines of the entries of a legal history.
-pub fn put_entries<K: Sink>(
-    alloc: Global,
-    history: &[Entry],
-    sink: &mut K,
-) -> Result<(), SinkStop>
+pub fn put_entries<K: Sink>(alloc: Global, history: &[Entry], sink: &mut K) -> Result<(), SinkStop>
     requires { (budget : ℕ) × IsLegal history.now budget }
     ensures { Puts (K.put sink.old) (K.put sink.new) (K.faults sink.old) (K.faults sink.new) (text_lines (entry_lines [] 0 history.now)) result }
 {

@@ -63,8 +63,20 @@ fn add_frame(text: &mut Vec<u8>, scene: &Scene, frame: &Frame) -> Result<(), All
 {
     let desired = &frame.desired;
     let places = &frame.places;
-    add_places(text, scene, Axis::X, desired.x.as_slice(), places.x.as_slice())?;
-    add_places(text, scene, Axis::Y, desired.y.as_slice(), places.y.as_slice())
+    add_places(
+        text,
+        scene,
+        Axis::X,
+        desired.x.as_slice(),
+        places.x.as_slice(),
+    )?;
+    add_places(
+        text,
+        scene,
+        Axis::Y,
+        desired.y.as_slice(),
+        places.y.as_slice(),
+    )
 }
 
 /// Adds the lines below an act.

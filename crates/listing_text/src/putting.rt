@@ -2,7 +2,7 @@
 ghost use Rattle.std.specs.Prelude.{◌≡◌};
 ghost use Rattle.listing_text.specs.Putting.{Puts};
 
-use byte_edge::{put_all, Sink, SinkStop};
+use byte_edge::{Sink, SinkStop, put_all};
 
 /// Puts the text.
 pub fn put<K: Sink>(sink: &mut K, text: &[u8]) -> Result<(), SinkStop>

@@ -10,7 +10,7 @@ use crate::words::{add_count, add_number, add_word, begin_with};
 use byte_edge::{Sink, SinkStop};
 use doc_book::Reply;
 use edit_rules::{Counted, Refusal};
-use script_text::{command_text, Line};
+use script_text::{Line, command_text};
 use std::alloc::{AllocError, Global};
 use units::{Memory, Sequence};
 
@@ -74,12 +74,7 @@ fn add_reply(text: &mut Vec<u8>, reply: &Reply) -> Result<(), AllocError>
 }
 
 /// The line of a reply: the session, the number of the line, its command, and the reply.
-fn reply_text(
-    alloc: Global,
-    session: usize,
-    line: &Line,
-    reply: &Reply,
-) -> Result<Vec<u8>, Memory>
+fn reply_text(alloc: Global, session: usize, line: &Line, reply: &Reply) -> Result<Vec<u8>, Memory>
     ensures { IfOk result (λ text. text.items
         ≡ text_line (decimal session ∷ decimal line.now.number ∷ (command_words line.now.command ++ codes "=" ∷ reply_words reply.now))) }
 {

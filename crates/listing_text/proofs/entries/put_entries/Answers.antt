@@ -10,8 +10,8 @@ pub returns-in_err-put_entry : goal.returns-in_err-put_entry
 returns-in_err-put_entry g c =
     let p = err_from_is_err_and c.from_residual.result c.from_residual.ensures.1 in
     rw (p.1, p.2) (stopped _ _ _ _ _ _ _ _ _ _ c.in_err-put_entry.field-0.0 c.loop-place.invariant.so_far
-      (entry_put c.args.history.now c.loop-place.place c.index-history-place.result c.loop-place-test.true c.index-history-place.is c.loop-place.scene c.loop-place.invariant.scene)
-      c.in_err-put_entry.ensures.puts)
+    (entry_put c.args.history.now c.loop-place.place c.index-history-place.result c.loop-place-test.true c.index-history-place.is c.loop-place.scene c.loop-place.invariant.scene)
+    c.in_err-put_entry.ensures.puts)
 
 pub loop-place-preserved : goal.loop-place-preserved
 loop-place-preserved g c =
@@ -20,8 +20,8 @@ loop-place-preserved g c =
     let e = c.index-history-place.result in
     record {
       so_far = one_more _ _ _ _ _ _ _ _ _ _ c.loop-place.invariant.so_far
-        (entry_put h k e c.loop-place-test.true c.index-history-place.is c.loop-place.scene c.loop-place.invariant.scene)
-        c.in_ok-put_entry.ensures.puts.whole c.in_ok-put_entry.ensures.puts.calm;
+          (entry_put h k e c.loop-place-test.true c.index-history-place.is c.loop-place.scene c.loop-place.invariant.scene)
+          c.in_ok-put_entry.ensures.puts.whole c.in_ok-put_entry.ensures.puts.calm;
       scene = c.in_ok-put_entry.ensures.scene ∙ ap (λ (s : Diagram). scene_after s e.act) c.loop-place.invariant.scene ∙ sym (scene_step h k e c.loop-place-test.true c.index-history-place.is);
-      legal = (c.loop-place.invariant.legal.0, legal_step h k e c.loop-place-test.true c.index-history-place.is c.loop-place.invariant.legal.0 c.loop-place.invariant.legal.1)
+      legal = (c.loop-place.invariant.legal.0, legal_step h k e c.loop-place-test.true c.index-history-place.is c.loop-place.invariant.legal.0 c.loop-place.invariant.legal.1);
     }

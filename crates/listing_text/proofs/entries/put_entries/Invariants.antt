@@ -8,7 +8,7 @@ use Rattle.listing_text.proofs.entries.put_entries.Given as goal
 abbrev pub invariant-loop-place : goal.invariant-loop-place
 invariant-loop-place g l = record {
   so_far : PutsSoFar (g.K.Sink.put l.fn.sink) (g.K.Sink.put l.sink) (g.K.Sink.faults l.fn.sink) (g.K.Sink.faults l.sink)
-    (text_lines (entry_lines [] 0 l.history)) (text_lines (entry_lines (take l.place l.history) l.place (drop l.place l.history)));
+      (text_lines (entry_lines [] 0 l.history)) (text_lines (entry_lines (take l.place l.history) l.place (drop l.place l.history)));
   scene : l.scene ≡ scene_at (take l.place l.history);
-  legal : (budget : ℕ) × AllMayFollow (take l.place l.history) budget (drop l.place l.history)
+  legal : (budget : ℕ) × AllMayFollow (take l.place l.history) budget (drop l.place l.history);
 }

@@ -38,12 +38,12 @@ loop-var-preserved c =
     let same_p : to_z w64 (of_z w64 p) ≡ p = to_z-of_z w64 p fits_p in
     let passed : c.add_place_line.new.text.items ≡ c.loop-var.text.items ++ line (to_z w64 (of_z w64 d)) (to_z w64 (of_z w64 p)) = c.in_ok-add_place_line.ensures in
     let grown : c.add_place_line.new.text.items ≡ c.loop-var.text.items ++ line d p = passed
-          ∙ ap (λ (m : ℤ). c.loop-var.text.items ++ line m (to_z w64 (of_z w64 p))) same_d
-          ∙ ap (λ (n : ℤ). c.loop-var.text.items ++ line d n) same_p in
+    ∙ ap (λ (m : ℤ). c.loop-var.text.items ++ line m (to_z w64 (of_z w64 p))) same_d
+    ∙ ap (λ (n : ℤ). c.loop-var.text.items ++ line d n) same_p in
     grows c.loop-var.text.items c.add_place_line.new.text.items (line d p)
-      (text_lines (place_lines c.args.axis (drop k vs) (drop k ds) (drop k ps)))
-      (text_lines (place_lines c.args.axis (drop (k + 1) vs) (drop (k + 1) ds) (drop (k + 1) ps)))
-      (c.args.text.now.items ++ text_lines (place_lines c.args.axis vs ds ps))
-      grown
-      (places_more c.args.axis vs ds ps k at c.variable-variable.result c.from-at.ensures c.variable-variable.ensures c.if-at-desired.false c.if-at-places.false)
-      c.loop-var.invariant
+    (text_lines (place_lines c.args.axis (drop k vs) (drop k ds) (drop k ps)))
+    (text_lines (place_lines c.args.axis (drop (k + 1) vs) (drop (k + 1) ds) (drop (k + 1) ps)))
+    (c.args.text.now.items ++ text_lines (place_lines c.args.axis vs ds ps))
+    grown
+    (places_more c.args.axis vs ds ps k at c.variable-variable.result c.from-at.ensures c.variable-variable.ensures c.if-at-desired.false c.if-at-places.false)
+    c.loop-var.invariant

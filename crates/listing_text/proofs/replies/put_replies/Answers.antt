@@ -1,4 +1,3 @@
-use Rattle.std.proofs.Common.{◌≡◌, ◌∙◌, sym}
 use Rattle.std.proofs.lemmas.Result.{err_from_is_err_and}
 use Rattle.listing_text.proofs.Puts.{one_more, stopped}
 use Rattle.listing_text.proofs.Sessions.{sessions_step_by}
@@ -8,11 +7,11 @@ pub returns-in_err-put_session : goal.returns-in_err-put_session
 returns-in_err-put_session g c =
     let p = err_from_is_err_and c.from_residual.result c.from_residual.ensures.1 in
     rw (p.1, p.2) (stopped _ _ _ _ _ _ _ _ _ _ c.in_err-put_session.field-0.0 c.loop-index.invariant
-      (sessions_step_by c.args.lines.now c.args.replies.now c.loop-index.index c.index-replies-index.result c.loop-index-test.true c.index-replies-index.is c.as_slice.result.now c.as_slice.ensures)
-      c.in_err-put_session.ensures)
+    (sessions_step_by c.args.lines.now c.args.replies.now c.loop-index.index c.index-replies-index.result c.loop-index-test.true c.index-replies-index.is c.as_slice.result.now c.as_slice.ensures)
+    c.in_err-put_session.ensures)
 
 pub loop-index-preserved : goal.loop-index-preserved
 loop-index-preserved g c =
     one_more _ _ _ _ _ _ _ _ _ _ c.loop-index.invariant
-      (sessions_step_by c.args.lines.now c.args.replies.now c.loop-index.index c.index-replies-index.result c.loop-index-test.true c.index-replies-index.is c.as_slice.result.now c.as_slice.ensures)
-      c.in_ok-put_session.ensures.whole c.in_ok-put_session.ensures.calm
+    (sessions_step_by c.args.lines.now c.args.replies.now c.loop-index.index c.index-replies-index.result c.loop-index-test.true c.index-replies-index.is c.as_slice.result.now c.as_slice.ensures)
+    c.in_ok-put_session.ensures.whole c.in_ok-put_session.ensures.calm

@@ -12,10 +12,10 @@ returns-in_err-put_reply g c =
     let n = c.loop-at.next in
     let of : c.index-lines-at.result.session ≡ c.args.session = sym c.from.ensures ∙ c.if-from-session.false in
     rw (p.1, p.2) (stopped _ _ _ _ _ _ _ _ _ _ c.in_err-put_reply.field-0.0 c.loop-at.invariant.so_far
-      (reply_lines_step c.args.session (drop k c.args.lines.now) (drop n c.args.replies.now) c.index-lines-at.result c.index-replies-next.result (drop (k + 1) c.args.lines.now) (drop (n + 1) c.args.replies.now)
-        (rest_of c.args.lines.now k c.index-lines-at.result c.loop-at-test.true c.index-lines-at.is)
-        (rest_of c.args.replies.now n c.index-replies-next.result c.if-next-replies.false c.index-replies-next.is) of)
-      c.in_err-put_reply.ensures)
+    (reply_lines_step c.args.session (drop k c.args.lines.now) (drop n c.args.replies.now) c.index-lines-at.result c.index-replies-next.result (drop (k + 1) c.args.lines.now) (drop (n + 1) c.args.replies.now)
+    (rest_of c.args.lines.now k c.index-lines-at.result c.loop-at-test.true c.index-lines-at.is)
+    (rest_of c.args.replies.now n c.index-replies-next.result c.if-next-replies.false c.index-replies-next.is) of)
+    c.in_err-put_reply.ensures)
 
 pub loop-at-preserved : goal.loop-at-preserved
 loop-at-preserved g c =
@@ -24,9 +24,9 @@ loop-at-preserved g c =
     let of : c.index-lines-at.result.session ≡ c.args.session = sym c.from.ensures ∙ c.if-from-session.false in
     record {
       so_far = one_more _ _ _ _ _ _ _ _ _ _ c.loop-at.invariant.so_far
-        (reply_lines_step c.args.session (drop k c.args.lines.now) (drop n c.args.replies.now) c.index-lines-at.result c.index-replies-next.result (drop (k + 1) c.args.lines.now) (drop (n + 1) c.args.replies.now)
+          (reply_lines_step c.args.session (drop k c.args.lines.now) (drop n c.args.replies.now) c.index-lines-at.result c.index-replies-next.result (drop (k + 1) c.args.lines.now) (drop (n + 1) c.args.replies.now)
           (rest_of c.args.lines.now k c.index-lines-at.result c.loop-at-test.true c.index-lines-at.is)
           (rest_of c.args.replies.now n c.index-replies-next.result c.if-next-replies.false c.index-replies-next.is) of)
-        c.in_ok-put_reply.ensures.whole c.in_ok-put_reply.ensures.calm;
-      within = omega (arith, c.if-next-replies.false)
+          c.in_ok-put_reply.ensures.whole c.in_ok-put_reply.ensures.calm;
+      within = omega (arith, c.if-next-replies.false);
     }
