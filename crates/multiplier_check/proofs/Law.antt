@@ -1,6 +1,6 @@
 -- The certificate law: a certificate that shows has the one placement of least cost.
-use Rattle.std.proofs.Common.{◌≡◌, ℕ, zero, suc, ◌+◌, ◌*◌, ◌<◌, ℤ, pos, ◌-ℤ◌, ◌*ℤ◌, List, [], ◌∷◌, length, get_or, arith, refl, sym, ◌∙◌, ap, ◌⊎◌, inl, inr, ◌↔◌, All}
-use Rattle.std.specs.List.{AllByRecursion, AllZip}
+use Rattle.std.proofs.Common.{◌≡◌, ℕ, ◌+◌, ◌*◌, ◌<◌, ℤ, pos, ◌-ℤ◌, ◌*ℤ◌, List, [], ◌∷◌, length, get_or, arith, refl, sym, ◌∙◌, ap, ◌⊎◌, inl, inr, ◌↔◌, All}
+use Rattle.std.specs.List.{AllByRecursion}
 use Rattle.std.proofs.lemmas.List.Elements.{recursion_from_All}
 use Rattle.units.specs.declared.geometry.Sep.{Sep}
 use Rattle.units.specs.Problem.{Problem, IsBounded}
@@ -9,7 +9,7 @@ use Rattle.frac128.specs.Fraction.{Fraction, IsLowest}
 use Rattle.multiplier_check.specs.declared.certificate.Certificate.{Certificate}
 use Rattle.multiplier_check.specs.Placement.{Placement, IsPlacement, common_denominator, numerators_over, placement_of, square, cost, IsLeast, Keeps, IsProjection}
 use Rattle.multiplier_check.specs.Certificate.{IsCertificate, IsSigned, IsComplementary, DividesBothEnds}
-use Rattle.multiplier_check.specs.Check.{slack, IsMet, HasNoSlack, IsRight, MeetsRules, touching}
+use Rattle.multiplier_check.specs.Check.{slack, IsMet, IsRight, MeetsRules, touching}
 use Rattle.multiplier_check.proofs.Over.{HasDen, AreOver, over_common, over_at, common_denominator_above, length-numerators_over, dens}
 use Rattle.multiplier_check.proofs.Balance.{balance_over}
 use Rattle.multiplier_check.proofs.Slacks.{room, apart, met_keeps, kept_met, tight_slack, sign_zero, slack_above, room_over, gain_all}

@@ -1,5 +1,5 @@
 -- The optimality certificate of a projection: the conditions of Karush, Kuhn and Tucker, and two rules of form.
-use Rattle.std.specs.Prelude.{◌≡◌, ℕ, ◌*◌, ◌<◌, ◌≤◌, ◌^◌, ℤ, pos, ◌≤ℤ◌, ◌-ℤ◌, ◌*ℤ◌, nat_abs, List, [], ◌∷◌, length, ◌==◌, if◌then◌else◌, ◌⊎◌, slice_index_or, slice_index, All}
+use Rattle.std.specs.Prelude.{◌≡◌, ℕ, ◌*◌, ◌<◌, ◌≤◌, ◌^◌, pos, ◌≤ℤ◌, ◌-ℤ◌, ◌*ℤ◌, nat_abs, List, [], ◌∷◌, length, ◌==◌, if◌then◌else◌, ◌⊎◌, slice_index_or, slice_index, All}
 use Rattle.std.specs.List.{AllZip}
 use Rattle.std.specs.Bool.{OnFalse}
 use Rattle.std.specs.Int.{◌∣◌}
