@@ -58,7 +58,8 @@ touching end (s ∷ ss) (m ∷ ms) i = put_at (end s) m i +ℤ touching end ss m
 -- what arrives at i less what leaves it, over q
 abbrev pub net_over : ℕ → List Sep → List Fraction → ℕ → ℤ
 net_over q separations multipliers i =
-    touching (λ s. s.right) separations (numerators_over q multipliers) i -ℤ touching (λ s. s.left) separations (numerators_over q multipliers) i
+    touching (λ s. s.right) separations (numerators_over q multipliers) i
+    -ℤ touching (λ s. s.left) separations (numerators_over q multipliers) i
 
 -- over the denominator of the place of i
 abbrev pub net_at : List Fraction → List Sep → List Fraction → ℕ → ℤ
@@ -67,4 +68,5 @@ net_at places separations multipliers i = net_over (fraction_at places i).den se
 -- the gradient at i, over the denominator of its place, is v
 abbrev pub HasGradient : List Fraction → List ℕ → List ℤ → ℤ → ℕ → Type 0
 HasGradient places weights desired v i =
-    ((fraction_at places i).num -ℤ slice_index_or desired i (pos 0) *ℤ pos (fraction_at places i).den) *ℤ pos (2 * slice_index weights i) ≡ v
+    ((fraction_at places i).num -ℤ slice_index_or desired i (pos 0) *ℤ pos (fraction_at places i).den)
+    *ℤ pos (2 * slice_index weights i) ≡ v

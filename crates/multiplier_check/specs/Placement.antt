@@ -66,15 +66,18 @@ CostsTheSame desired weights x y =
 
 -- each variable stands at the same place in both
 abbrev pub SamePlaces : Placement → Placement → Type 0
-SamePlaces x y = (i : ℕ) → i < length x.places → place_of x.places i *ℤ pos y.denominator ≡ place_of y.places i *ℤ pos x.denominator
+SamePlaces x y =
+    (i : ℕ) → i < length x.places → place_of x.places i *ℤ pos y.denominator ≡ place_of y.places i *ℤ pos x.denominator
 
 -- among all placements that fit, this one has the least weighted squared distance from the desired places, and no
 -- other one has it (the projection of the desired places on what fits)
 pub record IsLeast (Fits : Placement → Type 0) (desired : List ℤ) (weights : List ℕ) (placement : Placement) : Type 0 where
   pub placed : IsPlacement (length desired) placement
   pub fits : Fits placement
-  pub least : (other : Placement) → IsPlacement (length desired) other → Fits other → CostsAtMost desired weights placement other
-  pub alone : (other : Placement) → IsPlacement (length desired) other → Fits other → CostsTheSame desired weights placement other → SamePlaces placement other
+  pub least : (other : Placement) → IsPlacement (length desired) other → Fits other
+      → CostsAtMost desired weights placement other
+  pub alone : (other : Placement) → IsPlacement (length desired) other → Fits other
+      → CostsTheSame desired weights placement other → SamePlaces placement other
 
 -- the placement satisfies every separation of the list
 abbrev pub Keeps : List Sep → Placement → Type 0
