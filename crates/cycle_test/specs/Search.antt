@@ -1,13 +1,13 @@
 -- The state of the search: for each variable a value, and a path of arcs that shows how it came to it.
-use Rattle.std.specs.Prelude.{◌≡◌, ℕ, ◌+◌, ◌<◌, ℤ, pos, ◌+ℤ◌, ◌≤ℤ◌, List, [], ◌∷◌, ◌++◌, length, map, nat_eq, slice_index_or}
+use Rattle.std.specs.Prelude.{◌≡◌, ℕ, ◌+◌, ◌<◌, ℤ, pos, ◌+ℤ◌, ◌≤ℤ◌, List, [], ◌∷◌, ◌++◌, length, map, nat_eq, slice_index_or, Bool, MatchBool}
 use Rattle.std.specs.List.{IsDistinct, sum_by}
-use Rattle.units.specs.declared.sep.Sep.{Sep}
-use Rattle.units.specs.Problem.{Meets}
+use Rattle.units.specs.declared.geometry.Sep.{Sep}
 use Rattle.cycle_test.specs.declared.arc.CycleArc.{CycleArc}
 use Rattle.cycle_test.specs.declared.reach.Reach.{Reach}
 use Rattle.cycle_test.specs.declared.reach.Outcome.{Outcome}
 use Rattle.cycle_test.specs.declared.reach.Outcome.TheVariants.{AtRest, Raised, Cycle}
-use Rattle.cycle_test.specs.Cycle.{IsArc, start_of, end_of, gap_of, starts, IsPositiveCycle}
+use Rattle.units.specs.Separation.{Satisfies}
+use Rattle.cycle_test.specs.Cycle.{IsArc, sep_at, start_of, end_of, gap_of, starts, IsPositiveCycle}
 
 -- how the variable was reached; past the end, not at all
 abbrev pub reach_at : List Reach → ℕ → Reach
@@ -16,6 +16,14 @@ reach_at reaches v = slice_index_or reaches v (record { value = 0; path = [] })
 -- the present value of a variable
 abbrev pub value_at : List Reach → ℕ → ℕ
 value_at reaches v = (reach_at reaches v).value
+
+-- what an arc asks the value at its end to be, at least: the value at its start and its gap
+abbrev pub asked_by : List Sep → List Reach → CycleArc → ℤ
+asked_by seps reaches arc = pos (value_at reaches (start_of seps arc)) +ℤ gap_of seps arc
+
+-- the value at the end of an arc is at least what the arc asks for
+abbrev pub IsContent : List Sep → List Reach → CycleArc → Type 0
+IsContent seps reaches arc = asked_by seps reaches arc ≤ℤ pos (value_at reaches (end_of seps arc))
 
 -- the values as places
 abbrev pub values : List Reach → List ℤ
@@ -50,3 +58,8 @@ abbrev pub IsOutcome : List Sep → List Reach → List Reach → Type 0 → Out
 IsOutcome seps old new Rests AtRest = (new ≡ old) × Rests
 IsOutcome seps old new Rests Raised = IsRaised seps old new
 IsOutcome seps old new Rests (Cycle arcs) = IsPositiveCycle seps arcs
+
+-- after the first k separations were tried: nothing changed and they are satisfied, or some value rose
+abbrev pub IsSwept : List Sep → List Reach → List Reach → Bool → ℕ → Type 0
+IsSwept seps old new raised k =
+    MatchBool raised (IsRaised seps old new) ((new ≡ old) × ((j : ℕ) → j < k → Satisfies (values old) 1 (sep_at seps j)))

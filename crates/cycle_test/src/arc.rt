@@ -1,8 +1,7 @@
 //! Arcs of a list of separations.
 ghost use Rattle.std.specs.Prelude.{◌≡◌, ◌≤◌, nat_abs};
-ghost use Rattle.units.specs.declared.sep.Sep.{Sep};
 
-use units::sep::Sep;
+use units::Sep;
 
 /// A separation of a list taken forwards, from left to right, or, where it is exact, taken back with its gap negated.
 #[derive(Clone, Copy, Debug, PartialEq, Eq)]

@@ -1,36 +1,46 @@
 //! One arc of the search.
-ghost use Rattle.std.specs.Prelude.{◌<◌, length, ◌≤◌, nat_abs, IfOk, pos, ◌+ℤ◌, ◌≤ℤ◌};
-ghost use Rattle.std.specs.List.{All};
+ghost use Rattle.std.specs.Prelude.{◌≡◌, ◌<◌, length, ◌≤◌, All, IfOk, pos, ◌+ℤ◌, ◌≤ℤ◌};
+ghost use Rattle.units.specs.Problem.{IsSeparation};
 ghost use Rattle.cycle_test.specs.Cycle.{IsArc, start_of, end_of, gap_of};
-ghost use Rattle.cycle_test.specs.Feasibility.{HasEndsBelow};
-ghost use Rattle.cycle_test.specs.Search.{IsState, IsOutcome, value_at};
+ghost use Rattle.cycle_test.specs.Search.{IsState, IsOutcome, IsContent, asked_by};
 
 use crate::arc::CycleArc;
-use crate::reach::{Outcome, Reach, extended, visit};
+use crate::reach::{Outcome, Reach, extended, path_of, value_of, visit};
 use std::alloc::{AllocError, Global};
-use units::sep::Sep;
+use units::Sep;
+
+/// What an arc asks the value at its end to be, at least.
+fn asked_by(seps: &[Sep], reaches: &[Reach], arc: CycleArc) -> i64
+    requires sound { All (λ separation. IsSeparation (length reaches.now) separation) seps.now }
+    requires arc { IsArc seps.now arc }
+    ensures { result ≡ asked_by seps.now reaches.now arc }
+{
+    i64::from(value_of(reaches, arc.start(seps))) + i64::from(arc.gap(seps))
+}
 
 /// Raises the value at the end of an arc where the arc asks for more, or closes a cycle where its path comes by there.
 pub fn relax(alloc: Global, seps: &[Sep], reaches: &mut Vec<Reach>, arc: CycleArc) -> Result<Outcome, AllocError>
     requires few { length reaches.old.items ≤ 258 }
     requires state { IsState seps.now reaches.old.items }
-    requires ends { All (HasEndsBelow (length reaches.old.items)) seps.now }
-    requires gaps { All (λ sep. nat_abs sep.gap ≤ 1000000) seps.now }
+    requires sound { All (λ separation. IsSeparation (length reaches.old.items) separation) seps.now }
     requires arc { IsArc seps.now arc }
-    ensures { IfOk result (IsOutcome seps.now reaches.old.items reaches.new.items
-        ((pos (value_at reaches.old.items (start_of seps.now arc)) +ℤ gap_of seps.now arc) ≤ℤ pos (value_at reaches.old.items (end_of seps.now arc)))) }
+    ensures { IfOk result (IsOutcome seps.now reaches.old.items reaches.new.items (IsContent seps.now reaches.old.items arc)) }
 {
     let from = arc.start(seps);
     let to = arc.end(seps);
-    let raised = i64::from(reaches[from as usize].value) + i64::from(arc.gap(seps));
-    if raised <= i64::from(reaches[to as usize].value) {
+    let asked = asked_by(seps, reaches, arc);
+    if asked <= i64::from(value_of(reaches, to)) {
         return Ok(Outcome::AtRest);
     }
-    let path = reaches[from as usize].path.as_slice();
-    if let Some(k) = visit(seps, path, from, to) {
-        return Ok(Outcome::Cycle(extended(alloc, &path[k..], arc)?));
+    let path = path_of(reaches, from);
+    match visit(seps, path, from, to) {
+        Some(k) => return Ok(Outcome::Cycle(extended(alloc, &path[k..], arc)?)),
+        None => {}
     }
     let path = extended(alloc, path, arc)?;
-    reaches[to as usize] = Reach { value: raised as u32, path };
+    reaches[to as usize] = Reach {
+        value: asked as u32,
+        path,
+    };
     Ok(Outcome::Raised)
 }

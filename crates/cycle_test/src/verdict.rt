@@ -1,10 +1,78 @@
 //! The answer.
-use crate::arc::CycleArc;
-use units::seq::Seq;
+ghost use Rattle.std.specs.Prelude.{◌≡◌, ◌↔◌, length, ◌≤◌, All, IfOk, IsTrue, replicate, []};
+ghost use Rattle.units.specs.Problem.{IsSeparation};
+ghost use Rattle.cycle_test.specs.Cycle.{HasPositiveCycle};
+ghost use Rattle.cycle_test.specs.Feasibility.{IsVerdict, is_cycle};
+ghost use Rattle.cycle_test.specs.Search.{values};
 
-/// Whole places that satisfy the list, one a variable, or a positive cycle of it.
+use crate::arc::CycleArc;
+use crate::reach::{Outcome, Reach};
+use crate::sweep::sweep;
+use std::alloc::{AllocError, Global};
+use units::{Memory, Sep, Sequence};
+
+/// Whether a list of separations can be satisfied.
 #[derive(Drop)]
 pub enum Verdict {
-    Places(Seq<i64>),
-    Cycle(Seq<CycleArc>),
+    /// Whole places in diagram units, one for each variable, that satisfy the list.
+    Places(Sequence<i64>),
+    /// A positive cycle of the list.
+    Cycle(Sequence<CycleArc>),
+}
+
+/// Every variable at 0.
+fn unreached(alloc: Global, n: u16) -> Result<Vec<Reach>, AllocError>
+    ensures { IfOk result (λ reaches. reaches.items ≡ replicate n (record { value = 0; path = [] })) }
+{
+    let mut reaches = Vec::with_capacity(alloc, n as usize)?;
+    for _ in 0..n {
+        reaches.push(Reach {
+            value: 0,
+            path: Sequence::new(alloc),
+        })?;
+    }
+    Ok(reaches)
+}
+
+/// The values as places.
+fn places_of(alloc: Global, reaches: &[Reach]) -> Result<Sequence<i64>, AllocError>
+    ensures { IfOk result (λ places. places ≡ values reaches.now) }
+{
+    let mut places = Vec::with_capacity(alloc, reaches.len())?;
+    for reach in reaches {
+        places.push(i64::from(reach.value))?;
+    }
+    Ok(Sequence::of(places))
+}
+
+fn decided(alloc: Global, n: u16, seps: &[Sep]) -> Result<Verdict, AllocError>
+    requires few { n ≤ 258 }
+    requires count { length seps.now ≤ 2048 }
+    requires sound { All (λ separation. IsSeparation n separation) seps.now }
+    ensures { IfOk result (IsVerdict seps.now n) }
+{
+    let mut reaches = unreached(alloc, n)?;
+    'rounds: loop {
+        match sweep(alloc, seps, &mut reaches)? {
+            Outcome::AtRest => return Ok(Verdict::Places(places_of(alloc, &reaches)?)),
+            Outcome::Raised => {}
+            Outcome::Cycle(arcs) => return Ok(Verdict::Cycle(arcs)),
+        }
+    }
+}
+
+/// Decides whether the separations between `n` variables can be satisfied, and shows why: whole places, one for each
+/// variable, that satisfy the list (exact separations in both directions), or a positive cycle of it. There are at
+/// most 258 variables and 2,048 separations, each between two different variables below `n`, with a gap within
+/// 1,000,000 diagram units of 0. Answers `Memory` for want of memory alone.
+///
+/// The method is a longest-path relaxation (Bellman and Ford) in which each value keeps the path that it rests on.
+pub fn test(alloc: Global, n: u16, seps: &[Sep]) -> Result<Verdict, Memory>
+    requires few { n ≤ 258 }
+    requires count { length seps.now ≤ 2048 }
+    requires sound { All (λ separation. IsSeparation n separation) seps.now }
+    ensures shown { IfOk result (IsVerdict seps.now n) }
+    ensures exactly { IfOk result (λ verdict. IsTrue (is_cycle verdict) ↔ HasPositiveCycle seps.now) }
+{
+    Ok(decided(alloc, n, seps)?)
 }

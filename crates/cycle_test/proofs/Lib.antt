@@ -1,0 +1,7 @@
+pub mod Bounds
+pub mod Cancel
+pub mod Rounds
+pub mod Steps
+pub mod Sweeps
+pub mod Verdicts
+pub mod Walks

@@ -1,0 +1,5 @@
+use Rattle.cycle_test.proofs.Cancel.{never_both}
+use Rattle.cycle_test.proofs.law.feasibility_law.Goals as goal
+
+pub returns : goal.returns
+returns c = record { never_both = never_both }
