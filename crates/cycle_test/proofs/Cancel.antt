@@ -16,6 +16,9 @@ times_none : (z : ℤ) → pos 0 *ℤ z ≡ pos 0
 times_none (pos m) = omega (arith, ints)
 times_none (negsuc m) = omega (arith, ints)
 
+pub times_one : (z : ℤ) → pos 1 *ℤ z ≡ z
+times_one z = omega (arith, ints, times_suc 0 z, times_none z)
+
 times_sum : (q : ℕ) (a b : ℤ) → pos q *ℤ (a +ℤ b) ≡ (pos q *ℤ a) +ℤ (pos q *ℤ b)
 times_sum zero a b = omega (arith, ints, times_none (a +ℤ b), times_none a, times_none b)
 times_sum (suc q) a b = omega (arith, ints, times_suc q (a +ℤ b), times_suc q a, times_suc q b, times_sum q a b)

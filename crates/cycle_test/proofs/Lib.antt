@@ -1,5 +1,6 @@
 pub mod Bounds
 pub mod Cancel
+pub mod Existence
 pub mod Rounds
 pub mod Steps
 pub mod Sweeps

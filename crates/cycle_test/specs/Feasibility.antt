@@ -11,12 +11,17 @@ use Rattle.cycle_test.specs.declared.verdict.Verdict.TheVariants.{Places, Cycle}
 abbrev pub HasPlaces : List Sep → Type 0
 HasPlaces seps = (ys : List ℤ) × SatisfiesAll ys 1 seps
 
--- the verdict is true of a list of separations between n variables: whole places, one a variable, that satisfy it, or a positive cycle of it
-abbrev pub IsVerdict : List Sep → ℕ → Verdict → Type 0
-IsVerdict seps n (Places ys) = (length ys ≡ n) × SatisfiesAll ys 1 seps
-IsVerdict seps n (Cycle arcs) = IsPositiveCycle seps arcs
+-- what holds of the places, where the verdict has them
+abbrev pub IfPlaces : Verdict → (List ℤ → Type 0) → Type 0
+IfPlaces (Places ys) P = P ys
+IfPlaces (Cycle arcs) P = Unit {0}
 
--- whether a verdict is a cycle
+-- what holds of the arcs, where the verdict is a cycle
+abbrev pub IfCycle : Verdict → (List CycleArc → Type 0) → Type 0
+IfCycle (Places ys) P = Unit {0}
+IfCycle (Cycle arcs) P = P arcs
+
+-- whether the verdict is a cycle
 abbrev pub is_cycle : Verdict → Bool
 is_cycle (Places ys) = false
 is_cycle (Cycle arcs) = true

@@ -1,8 +1,11 @@
-//! The feasibility law: either whole places that satisfy the list, or a positive cycle, and never both.
-ghost use Rattle.cycle_test.specs.Feasibility.{NeverBoth};
+//! The feasibility law, of definitions alone.
+ghost use Rattle.cycle_test.specs.Feasibility.{NeverBoth, OneOfBoth};
 
-/// States the law. It does nothing.
+/// The feasibility law: each list of separations has whole places that satisfy it, or a positive cycle, and never
+/// both. Where a positive cycle exists, not even places in fractions satisfy the list. The call does nothing; its
+/// contract is the law.
 pub fn feasibility_law()
     ensures never_both { NeverBoth }
+    ensures one_of_both { OneOfBoth }
 {
 }

@@ -7,3 +7,6 @@ mod reach;
 mod relax;
 mod sweep;
 pub mod verdict;
+
+#[cfg(test)]
+mod tests;

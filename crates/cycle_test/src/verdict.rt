@@ -1,8 +1,9 @@
 //! The answer.
 ghost use Rattle.std.specs.Prelude.{◌≡◌, ◌↔◌, length, ◌≤◌, All, IfOk, IsTrue, replicate, []};
 ghost use Rattle.units.specs.Problem.{IsSeparation};
-ghost use Rattle.cycle_test.specs.Cycle.{HasPositiveCycle};
-ghost use Rattle.cycle_test.specs.Feasibility.{IsVerdict, is_cycle};
+ghost use Rattle.units.specs.Separation.{SatisfiesAll};
+ghost use Rattle.cycle_test.specs.Cycle.{IsPositiveCycle, HasPositiveCycle};
+ghost use Rattle.cycle_test.specs.Feasibility.{IfPlaces, IfCycle, is_cycle};
 ghost use Rattle.cycle_test.specs.Search.{values};
 
 use crate::arc::CycleArc;
@@ -45,11 +46,22 @@ fn places_of(alloc: Global, reaches: &[Reach]) -> Result<Sequence<i64>, AllocErr
     Ok(Sequence::of(places))
 }
 
-fn decided(alloc: Global, n: u16, seps: &[Sep]) -> Result<Verdict, AllocError>
-    requires few { n ≤ 258 }
+/// Decides whether the separations between `n` variables can be satisfied, and shows why: whole places in diagram
+/// units, one for each variable, that satisfy the list (exact separations in both directions), or a positive cycle
+/// of the list. A cycle comes exactly where one exists. There are at most 258 variables and 2,048 separations, each
+/// between two different variables below `n`, with a gap within 1,000,000 diagram units of 0. Answers `Memory` for
+/// want of memory alone.
+///
+/// The method is a longest-path relaxation (Bellman and Ford) in which each value keeps the path that it rests on,
+/// so that a cycle shows itself at the first arc that closes one.
+pub fn test(alloc: Global, n: u16, seps: &[Sep]) -> Result<Verdict, Memory>
+    requires variables { n ≤ 258 }
     requires count { length seps.now ≤ 2048 }
     requires sound { All (λ separation. IsSeparation n separation) seps.now }
-    ensures { IfOk result (IsVerdict seps.now n) }
+    ensures counted { IfOk result (λ verdict. IfPlaces verdict (λ places. length places ≡ n)) }
+    ensures satisfied { IfOk result (λ verdict. IfPlaces verdict (λ places. SatisfiesAll places 1 seps.now)) }
+    ensures positive { IfOk result (λ verdict. IfCycle verdict (λ arcs. IsPositiveCycle seps.now arcs)) }
+    ensures exactly { IfOk result (λ verdict. IsTrue (is_cycle verdict) ↔ HasPositiveCycle seps.now) }
 {
     let mut reaches = unreached(alloc, n)?;
     'rounds: loop {
@@ -59,20 +71,4 @@ fn decided(alloc: Global, n: u16, seps: &[Sep]) -> Result<Verdict, AllocError>
             Outcome::Cycle(arcs) => return Ok(Verdict::Cycle(arcs)),
         }
     }
-}
-
-/// Decides whether the separations between `n` variables can be satisfied, and shows why: whole places, one for each
-/// variable, that satisfy the list (exact separations in both directions), or a positive cycle of it. There are at
-/// most 258 variables and 2,048 separations, each between two different variables below `n`, with a gap within
-/// 1,000,000 diagram units of 0. Answers `Memory` for want of memory alone.
-///
-/// The method is a longest-path relaxation (Bellman and Ford) in which each value keeps the path that it rests on.
-pub fn test(alloc: Global, n: u16, seps: &[Sep]) -> Result<Verdict, Memory>
-    requires few { n ≤ 258 }
-    requires count { length seps.now ≤ 2048 }
-    requires sound { All (λ separation. IsSeparation n separation) seps.now }
-    ensures shown { IfOk result (IsVerdict seps.now n) }
-    ensures exactly { IfOk result (λ verdict. IsTrue (is_cycle verdict) ↔ HasPositiveCycle seps.now) }
-{
-    Ok(decided(alloc, n, seps)?)
 }

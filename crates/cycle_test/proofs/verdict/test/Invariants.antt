@@ -1,6 +1,6 @@
 use Rattle.std.proofs.Common.{◌≡◌, ◌*◌, ◌-◌, length}
 use Rattle.cycle_test.specs.Search.{IsState, total}
-use Rattle.cycle_test.proofs.verdict.decided.Given as goal
+use Rattle.cycle_test.proofs.verdict.test.Given as goal
 
 abbrev pub invariant-rounds : goal.invariant-rounds
 invariant-rounds l = (length l.reaches.items ≡ l.n) × IsState l.seps l.reaches.items
