@@ -52,26 +52,29 @@ gap_near seps n b arc within taken =
     let sep = within arc.sep no_sep taken.among in pick_near arc.back (sep_at seps arc.sep).gap b sep.gap
 
 -- the variables of a walk are below n where its last one is
-pub visits_below : (seps : List Sep) (n b from : ℕ) (arcs : List CycleArc) (to : ℕ) → AreWithin n b seps → IsWalk seps from arcs to → to < n → (q : ℕ) → list_any (eqb q) (starts seps arcs ++ to ∷ []) ≡ true → q < n
+pub visits_below : (seps : List Sep) (n b from : ℕ) (arcs : List CycleArc) (to : ℕ) → AreWithin n b seps →
+    IsWalk seps from arcs to → to < n → (q : ℕ) → list_any (eqb q) (starts seps arcs ++ to ∷ []) ≡ true → q < n
 visits_below seps n b from [] to within walk below q found =
     ⊎_elim (λ same. rw same.1 below) (λ other. absurd (false≢true (rw other.0 at found))) (eqb_tells q to)
 visits_below seps n b from (arc ∷ arcs) to within walk below q found =
     ⊎_elim
-        (λ same. rw same.1 (start_below seps n b arc within walk.0))
-        (λ other. visits_below seps n b (end_of seps arc) arcs to within walk.2 below q (rw other.0 at found))
-        (eqb_tells q (start_of seps arc))
+    (λ same. rw same.1 (start_below seps n b arc within walk.0))
+    (λ other. visits_below seps n b (end_of seps arc) arcs to within walk.2 below q (rw other.0 at found))
+    (eqb_tells q (start_of seps arc))
 
 add_gap : (gap rest : ℤ) (b m : ℕ) → gap ≤ℤ pos b → rest ≤ℤ pos (b * m) → (gap +ℤ rest) ≤ℤ pos (b * suc m)
 add_gap gap rest b m near far = omega (arith, ints)
 
 -- the gaps of a walk add up to at most b for each arc
-pub sum_near : (seps : List Sep) (n b from : ℕ) (arcs : List CycleArc) (to : ℕ) → AreWithin n b seps → IsWalk seps from arcs to → gap_sum seps arcs ≤ℤ pos (b * length arcs)
+pub sum_near : (seps : List Sep) (n b from : ℕ) (arcs : List CycleArc) (to : ℕ) → AreWithin n b seps → IsWalk seps from arcs to →
+    gap_sum seps arcs ≤ℤ pos (b * length arcs)
 sum_near seps n b from [] to within walk = omega (arith, ints)
 sum_near seps n b from (arc ∷ arcs) to within walk =
     add_gap (gap_of seps arc) (gap_sum seps arcs) b (length arcs) (gap_near seps n b arc within walk.0) (sum_near seps n b (end_of seps arc) arcs to within walk.2)
 
 -- a path has fewer arcs than there are variables
-pub path_short : (seps : List Sep) (n b : ℕ) (reaches : List Reach) (v : ℕ) → AreWithin n b seps → IsReached seps reaches v → v < n → length (reach_at reaches v).path < n
+pub path_short : (seps : List Sep) (n b : ℕ) (reaches : List Reach) (v : ℕ) → AreWithin n b seps → IsReached seps reaches v →
+    v < n → length (reach_at reaches v).path < n
 path_short seps n b reaches v within reached below =
     let path = (reach_at reaches v).path in
     let walk = walk_of seps reaches reached.climbs.0 (pos 0) path v (pos (value_at reaches v)) reached.climbs.1 in
@@ -83,19 +86,21 @@ value_near value sum b m n is near few =
     let more : b * m ≤ b * n = mul-le-mul_left b (omega arith) in omega (arith, ints)
 
 -- so values stay below b for each variable
-pub value_below : (seps : List Sep) (n b : ℕ) (reaches : List Reach) (v : ℕ) → AreWithin n b seps → IsReached seps reaches v → v < n → value_at reaches v ≤ b * n
+pub value_below : (seps : List Sep) (n b : ℕ) (reaches : List Reach) (v : ℕ) → AreWithin n b seps → IsReached seps reaches v →
+    v < n → value_at reaches v ≤ b * n
 value_below seps n b reaches v within reached below =
     let path = (reach_at reaches v).path in
     let walk = walk_of seps reaches reached.climbs.0 (pos 0) path v (pos (value_at reaches v)) reached.climbs.1 in
     value_near (value_at reaches v) (gap_sum seps path) b (length path) n
-        (sum_of seps reaches reached.climbs.0 (pos 0) path v (pos (value_at reaches v)) reached.climbs.1)
-        (sum_near seps n b reached.climbs.0 path v within walk)
-        (path_short seps n b reaches v within reached below)
+    (sum_of seps reaches reached.climbs.0 (pos 0) path v (pos (value_at reaches v)) reached.climbs.1)
+    (sum_near seps n b reached.climbs.0 path v within walk)
+    (path_short seps n b reaches v within reached below)
 
 -- and all of them together below b for each pair of variables
-pub total_below : (seps : List Sep) (n b : ℕ) (reaches : List Reach) → AreWithin n b seps → IsState seps reaches → length reaches ≡ n → total reaches ≤ n * (b * n)
+pub total_below : (seps : List Sep) (n b : ℕ) (reaches : List Reach) → AreWithin n b seps → IsState seps reaches →
+    length reaches ≡ n → total reaches ≤ n * (b * n)
 total_below seps n b reaches within state as_long =
     let each = All-from_get_or (λ (reach : Reach). reach.value ≤ b * n) reaches (record { value = 0; path = [] })
-        (λ v below. value_below seps n b reaches v within (state v below) (omega arith)) in
+    (λ v below. value_below seps n b reaches v within (state v below) (omega arith)) in
     let whole = sum_by-le (λ (reach : Reach). reach.value) (b * n) reaches each in
     rw as_long at whole

@@ -42,7 +42,8 @@ kept_back : (left right gap : ℤ) (exact : Bool) → IsTrue exact → IsApart l
 kept_back left right gap true holds apart = let same : (right -ℤ left) ≡ gap = apart in omega (arith, ints)
 kept_back left right gap false holds apart = absurd (false≢true holds)
 
-arc_kept : (ys : List ℤ) (q : ℕ) (sep : Sep) (back : Bool) → (IsTrue back → IsTrue sep.exact) → Satisfies ys q sep → (pos q *ℤ cond back (neg_ℤ sep.gap) sep.gap) ≤ℤ (place_of ys (cond back sep.left sep.right) -ℤ place_of ys (cond back sep.right sep.left))
+arc_kept : (ys : List ℤ) (q : ℕ) (sep : Sep) (back : Bool) → (IsTrue back → IsTrue sep.exact) → Satisfies ys q sep →
+    (pos q *ℤ cond back (neg_ℤ sep.gap) sep.gap) ≤ℤ (place_of ys (cond back sep.left sep.right) -ℤ place_of ys (cond back sep.right sep.left))
 arc_kept ys q sep true both_ways satisfied =
     let back = kept_back (place_of ys sep.left) (place_of ys sep.right) (pos q *ℤ sep.gap) sep.exact (both_ways refl) satisfied in
     rw (times_neg q sep.gap) back
@@ -58,16 +59,18 @@ none_below : (sum place : ℤ) → pos 0 <ℤ sum → sum ≤ℤ (place -ℤ pla
 none_below sum place up down = omega (arith, ints)
 
 -- along a walk, places that satisfy the separations move on by at least the sum of the gaps
-along : (seps : List Sep) (ys : List ℤ) (q from : ℕ) (arcs : List CycleArc) (to : ℕ) → SatisfiesAll ys q seps → IsWalk seps from arcs to → (pos q *ℤ gap_sum seps arcs) ≤ℤ (place_of ys to -ℤ place_of ys from)
+along : (seps : List Sep) (ys : List ℤ) (q from : ℕ) (arcs : List CycleArc) (to : ℕ) → SatisfiesAll ys q seps →
+    IsWalk seps from arcs to → (pos q *ℤ gap_sum seps arcs) ≤ℤ (place_of ys to -ℤ place_of ys from)
 along seps ys q from [] to satisfied walk =
     let stays : place_of ys from ≡ place_of ys to = ap (place_of ys) walk in omega (arith, ints, nothing q)
 along seps ys q from (arc ∷ arcs) to satisfied walk =
     let one = arc_kept ys q (sep_at seps arc.sep) arc.back walk.0.both_ways (satisfied arc.sep no_sep walk.0.among) in
     rw (times_sum q (gap_of seps arc) (gap_sum seps arcs), ← walk.1)
-        (join (pos q *ℤ gap_of seps arc) (pos q *ℤ gap_sum seps arcs) (place_of ys (start_of seps arc)) (place_of ys (end_of seps arc)) (place_of ys to) one (along seps ys q (end_of seps arc) arcs to satisfied walk.2))
+    (join (pos q *ℤ gap_of seps arc) (pos q *ℤ gap_sum seps arcs) (place_of ys (start_of seps arc)) (place_of ys (end_of seps arc)) (place_of ys to) one (along seps ys q (end_of seps arc) arcs to satisfied walk.2))
 
 -- so where a positive cycle exists no placement in fractions satisfies the list
-pub never_both : (seps : List Sep) (arcs : List CycleArc) (ys : List ℤ) (q : ℕ) → IsPositiveCycle seps arcs → 1 ≤ q → SatisfiesAll ys q seps → ⊥
+pub never_both : (seps : List Sep) (arcs : List CycleArc) (ys : List ℤ) (q : ℕ) → IsPositiveCycle seps arcs → 1 ≤ q →
+    SatisfiesAll ys q seps → ⊥
 never_both seps arcs ys q cycle some satisfied =
     let home = cycle.closed.0 in
     let round = along seps ys q home arcs home satisfied cycle.closed.1 in

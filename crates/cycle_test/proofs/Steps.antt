@@ -20,16 +20,22 @@ walk_taken : (seps : List Sep) (from : ℕ) (arcs : List CycleArc) (to : ℕ) �
 walk_taken seps from [] to walk = All-nil (IsArc seps)
 walk_taken seps from (arc ∷ arcs) to walk = All-cons (IsArc seps) arc arcs walk.0 (walk_taken seps (end_of seps arc) arcs to walk.2)
 
-pub path_taken : (seps : List Sep) (reaches : List Reach) (v : ℕ) → IsReached seps reaches v → All (IsArc seps) (reach_at reaches v).path
+pub path_taken : (seps : List Sep) (reaches : List Reach) (v : ℕ) → IsReached seps reaches v →
+    All (IsArc seps) (reach_at reaches v).path
 path_taken seps reaches v reached =
     let path = (reach_at reaches v).path in
     walk_taken seps reached.climbs.0 path v (walk_of seps reaches reached.climbs.0 (pos 0) path v (pos (value_at reaches v)) reached.climbs.1)
 
-more_than : (low sum high gap : ℤ) (value : ℕ) → low +ℤ sum ≡ high +ℤ gap → low ≤ℤ pos value → pos value <ℤ (high +ℤ gap) → pos 0 <ℤ sum
+more_than : (low sum high gap : ℤ) (value : ℕ) → low +ℤ sum ≡ high +ℤ gap → low ≤ℤ pos value → pos value <ℤ (high +ℤ gap) →
+    pos 0 <ℤ sum
 more_than low sum high gap value is under asked = omega (arith, ints)
 
 -- the arc ends on the path that leads to where it starts: from there on, the path and the arc are a positive cycle
-pub closes : (seps : List Sep) (reaches : List Reach) (v : ℕ) (arc : CycleArc) (k : ℕ) → IsReached seps reaches v → IsArc seps arc → start_of seps arc ≡ v → k ≤ length (reach_at reaches v).path → slice_index_or (starts seps (reach_at reaches v).path ++ v ∷ []) k 0 ≡ end_of seps arc → pos (value_at reaches (end_of seps arc)) <ℤ (pos (value_at reaches v) +ℤ gap_of seps arc) → IsPositiveCycle seps (drop k (reach_at reaches v).path ++ arc ∷ [])
+pub closes : (seps : List Sep) (reaches : List Reach) (v : ℕ) (arc : CycleArc) (k : ℕ) → IsReached seps reaches v → IsArc seps arc →
+    start_of seps arc ≡ v → k ≤ length (reach_at reaches v).path →
+    slice_index_or (starts seps (reach_at reaches v).path ++ v ∷ []) k 0 ≡ end_of seps arc →
+    pos (value_at reaches (end_of seps arc)) <ℤ (pos (value_at reaches v) +ℤ gap_of seps arc) →
+    IsPositiveCycle seps (drop k (reach_at reaches v).path ++ arc ∷ [])
 closes seps reaches v arc k reached taken starts_there within visited asked =
     let path = (reach_at reaches v).path in
     let value = value_at reaches v in
@@ -39,44 +45,54 @@ closes seps reaches v arc k reached taken starts_there within visited asked =
     let round = climbs_push seps reaches home part.0 (drop k path) v (pos value) arc part.2 taken starts_there level in
     let walk = walk_of seps reaches home part.0 (drop k path ++ arc ∷ []) (end_of seps arc) (pos value +ℤ gap_of seps arc) round in
     record {
-        some = omega (arith, length-append (drop k path) (arc ∷ []));
-        closed = (end_of seps arc, rw visited at walk);
-        simple = rw (starts_push seps (drop k path) arc, starts_there, ← starts_drop seps k path v within) (distinct_drop k (starts seps path ++ v ∷ []) reached.simple);
-        positive = more_than part.0 (gap_sum seps (drop k path ++ arc ∷ [])) (pos value) (gap_of seps arc) (value_at reaches (end_of seps arc))
-            (sum_of seps reaches home part.0 (drop k path ++ arc ∷ []) (end_of seps arc) (pos value +ℤ gap_of seps arc) round) (rw visited at part.1) asked;
+      some = omega (arith, length-append (drop k path) (arc ∷ []));
+      closed = (end_of seps arc, rw visited at walk);
+      simple = rw (starts_push seps (drop k path) arc, starts_there, ← starts_drop seps k path v within) (distinct_drop k (starts seps path ++ v ∷ []) reached.simple);
+      positive = more_than part.0 (gap_sum seps (drop k path ++ arc ∷ [])) (pos value) (gap_of seps arc) (value_at reaches (end_of seps arc))
+          (sum_of seps reaches home part.0 (drop k path ++ arc ∷ []) (end_of seps arc) (pos value +ℤ gap_of seps arc) round) (rw visited at part.1) asked;
     }
 
 -- a value that rises
-value_rises : (reaches : List Reach) (to : ℕ) (reach : Reach) → to < length reaches → value_at reaches to < reach.value → (v : ℕ) → value_at reaches v ≤ value_at (slice_set reaches to reach) v
+value_rises : (reaches : List Reach) (to : ℕ) (reach : Reach) → to < length reaches → value_at reaches to < reach.value → (v : ℕ) →
+    value_at reaches v ≤ value_at (slice_set reaches to reach) v
 value_rises reaches to reach within more v =
     let none : Reach = record { value = 0; path = [] } in
     let here : value_at (slice_set reaches to reach) to ≡ reach.value = ap (λ (one : Reach). one.value) (get_or-set_same reaches to reach none within) in
     ⊎_elim
-        (λ same. rw same (omega arith))
-        (λ other. let kept : value_at (slice_set reaches to reach) v ≡ value_at reaches v = ap (λ (one : Reach). one.value) (get_or-set_other reaches to v reach none other) in omega arith)
-        (cases_eq v to)
+    (λ same. rw same (omega arith))
+    (λ other. let kept : value_at (slice_set reaches to reach) v ≡ value_at reaches v = ap (λ (one : Reach). one.value) (get_or-set_other reaches to v reach none other) in omega arith)
+    (cases_eq v to)
 
 -- a variable whose reach stays is still reached
-reached_still : (seps : List Sep) (old new : List Reach) (v : ℕ) → reach_at new v ≡ reach_at old v → ((w : ℕ) → value_at old w ≤ value_at new w) → IsReached seps old v → IsReached seps new v
+reached_still : (seps : List Sep) (old new : List Reach) (v : ℕ) → reach_at new v ≡ reach_at old v → ((w : ℕ) → value_at old w ≤ value_at new w) →
+    IsReached seps old v → IsReached seps new v
 reached_still seps old new v same rise reached = record {
-    climbs = (reached.climbs.0, subst (λ (reach : Reach). Climbs seps new reached.climbs.0 (pos 0) reach.path v (pos reach.value)) (sym same) (climbs_rise seps old new reached.climbs.0 (pos 0) (reach_at old v).path v (pos (value_at old v)) rise reached.climbs.1));
-    simple = subst (λ (reach : Reach). IsDistinct nat_eq (starts seps reach.path ++ v ∷ [])) (sym same) reached.simple;
+  climbs = (reached.climbs.0, subst (λ (reach : Reach). Climbs seps new reached.climbs.0 (pos 0) reach.path v (pos reach.value)) (sym same) (climbs_rise seps old new reached.climbs.0 (pos 0) (reach_at old v).path v (pos (value_at old v)) rise reached.climbs.1));
+  simple = subst (λ (reach : Reach). IsDistinct nat_eq (starts seps reach.path ++ v ∷ [])) (sym same) reached.simple;
 }
 
 -- the variable where the arc ends is reached by the path to where it starts, and the arc
-reached_anew : (seps : List Sep) (old new : List Reach) (v : ℕ) (arc : CycleArc) (value : ℕ) → IsReached seps old v → IsArc seps arc → start_of seps arc ≡ v → pos (value_at old v) +ℤ gap_of seps arc ≡ pos value → list_any (eqb (end_of seps arc)) (starts seps (reach_at old v).path ++ v ∷ []) ≡ false → ((w : ℕ) → value_at old w ≤ value_at new w) → reach_at new (end_of seps arc) ≡ record { value = value; path = (reach_at old v).path ++ arc ∷ [] } → IsReached seps new (end_of seps arc)
+reached_anew : (seps : List Sep) (old new : List Reach) (v : ℕ) (arc : CycleArc) (value : ℕ) → IsReached seps old v →
+    IsArc seps arc → start_of seps arc ≡ v → pos (value_at old v) +ℤ gap_of seps arc ≡ pos value →
+    list_any (eqb (end_of seps arc)) (starts seps (reach_at old v).path ++ v ∷ []) ≡ false → ((w : ℕ) → value_at old w ≤ value_at new w) →
+    reach_at new (end_of seps arc) ≡ record { value = value; path = (reach_at old v).path ++ arc ∷ [] } →
+    IsReached seps new (end_of seps arc)
 reached_anew seps old new v arc value reached taken starts_there is apart rise there =
     let path = (reach_at old v).path in
     let level : pos (value_at old v) ≤ℤ pos (value_at old v) = omega (arith, ints) in
     let longer = climbs_push seps old reached.climbs.0 (pos 0) path v (pos (value_at old v)) arc reached.climbs.1 taken starts_there level in
     let risen = climbs_rise seps old new reached.climbs.0 (pos 0) (path ++ arc ∷ []) (end_of seps arc) (pos (value_at old v) +ℤ gap_of seps arc) rise longer in
     record {
-        climbs = (reached.climbs.0, subst (λ (reach : Reach). Climbs seps new reached.climbs.0 (pos 0) reach.path (end_of seps arc) (pos reach.value)) (sym there) (rw is at risen));
-        simple = subst (λ (reach : Reach). IsDistinct nat_eq (starts seps reach.path ++ end_of seps arc ∷ [])) (sym there) (rw (starts_push seps path arc, starts_there) (IsDistinct-push nat_eq_equiv (starts seps path ++ v ∷ []) (end_of seps arc) reached.simple apart));
+      climbs = (reached.climbs.0, subst (λ (reach : Reach). Climbs seps new reached.climbs.0 (pos 0) reach.path (end_of seps arc) (pos reach.value)) (sym there) (rw is at risen));
+      simple = subst (λ (reach : Reach). IsDistinct nat_eq (starts seps reach.path ++ end_of seps arc ∷ [])) (sym there) (rw (starts_push seps path arc, starts_there) (IsDistinct-push nat_eq_equiv (starts seps path ++ v ∷ []) (end_of seps arc) reached.simple apart));
     }
 
 -- where the arc ends on no variable of that path, the value there rises
-pub rises : (seps : List Sep) (reaches : List Reach) (v : ℕ) (arc : CycleArc) (value : ℕ) → IsState seps reaches → v < length reaches → end_of seps arc < length reaches → IsArc seps arc → start_of seps arc ≡ v → pos (value_at reaches v) +ℤ gap_of seps arc ≡ pos value → value_at reaches (end_of seps arc) < value → list_any (eqb (end_of seps arc)) (starts seps (reach_at reaches v).path ++ v ∷ []) ≡ false → IsRaised seps reaches (slice_set reaches (end_of seps arc) (record { value = value; path = (reach_at reaches v).path ++ arc ∷ [] }))
+pub rises : (seps : List Sep) (reaches : List Reach) (v : ℕ) (arc : CycleArc) (value : ℕ) → IsState seps reaches →
+    v < length reaches → end_of seps arc < length reaches → IsArc seps arc → start_of seps arc ≡ v →
+    pos (value_at reaches v) +ℤ gap_of seps arc ≡ pos value → value_at reaches (end_of seps arc) < value →
+    list_any (eqb (end_of seps arc)) (starts seps (reach_at reaches v).path ++ v ∷ []) ≡ false →
+    IsRaised seps reaches (slice_set reaches (end_of seps arc) (record { value = value; path = (reach_at reaches v).path ++ arc ∷ [] }))
 rises seps reaches v arc value state v_within to_within taken starts_there is more apart =
     let to = end_of seps arc in
     let reach : Reach = record { value = value; path = (reach_at reaches v).path ++ arc ∷ [] } in
@@ -85,30 +101,38 @@ rises seps reaches v arc value state v_within to_within taken starts_there is mo
     let rise = value_rises reaches to reach to_within more in
     let there : reach_at new to ≡ reach = get_or-set_same reaches to reach none to_within in
     record {
-        same_length = length-set reaches to reach;
-        state = λ w within.
-            ⊎_elim
-                (λ same. rw same (reached_anew seps reaches new v arc value (state v v_within) taken starts_there is apart rise there))
-                (λ other. reached_still seps reaches new w (get_or-set_other reaches to w reach none other) rise (state w (omega (arith, length-set reaches to reach))))
-                (cases_eq w to);
-        more = omega (arith, sum_by-set (λ (one : Reach). one.value) reaches to reach none to_within);
+      same_length = length-set reaches to reach;
+      state = λ w within.
+          ⊎_elim
+          (λ same. rw same (reached_anew seps reaches new v arc value (state v v_within) taken starts_there is apart rise there))
+          (λ other. reached_still seps reaches new w (get_or-set_other reaches to w reach none other) rise (state w (omega (arith, length-set reaches to reach))))
+          (cases_eq w to);
+      more = omega (arith, sum_by-set (λ (one : Reach). one.value) reaches to reach none to_within);
     }
 
 -- `closes`, by what the code has at hand
-pub closes_at : (seps : List Sep) (reaches : List Reach) (from to : ℕ) (arc : CycleArc) (k : ℕ) (path arcs : List CycleArc) (asked : ℤ) → IsState seps reaches → from < length reaches → IsArc seps arc → from ≡ start_of seps arc → to ≡ end_of seps arc → path ≡ (reach_at reaches from).path → k ≤ length path → slice_index_or (starts seps path ++ from ∷ []) k 0 ≡ to → arcs ≡ take (length path - k) (drop k path) ++ arc ∷ [] → asked ≡ asked_by seps reaches arc → pos (value_at reaches to) <ℤ asked → IsPositiveCycle seps arcs
+pub closes_at : (seps : List Sep) (reaches : List Reach) (from to : ℕ) (arc : CycleArc) (k : ℕ) (path arcs : List CycleArc) (asked : ℤ) →
+    IsState seps reaches → from < length reaches → IsArc seps arc → from ≡ start_of seps arc → to ≡ end_of seps arc →
+    path ≡ (reach_at reaches from).path → k ≤ length path → slice_index_or (starts seps path ++ from ∷ []) k 0 ≡ to →
+    arcs ≡ take (length path - k) (drop k path) ++ arc ∷ [] → asked ≡ asked_by seps reaches arc →
+    pos (value_at reaches to) <ℤ asked → IsPositiveCycle seps arcs
 closes_at seps reaches from to arc k path arcs asked state within taken starts_there ends_there is_path k_within visited is_arcs is_asked more =
     let rest : arcs ≡ drop k (reach_at reaches (start_of seps arc)).path ++ arc ∷ [] =
-        is_arcs ∙ ap (λ (xs : List CycleArc). xs ++ arc ∷ []) (take_all (length path - k) (drop k path) (omega (arith, length-drop k path)))
-        ∙ ap (λ (xs : List CycleArc). drop k xs ++ arc ∷ []) (is_path ∙ ap (λ v. (reach_at reaches v).path) starts_there) in
+    is_arcs ∙ ap (λ (xs : List CycleArc). xs ++ arc ∷ []) (take_all (length path - k) (drop k path) (omega (arith, length-drop k path)))
+    ∙ ap (λ (xs : List CycleArc). drop k xs ++ arc ∷ []) (is_path ∙ ap (λ v. (reach_at reaches v).path) starts_there) in
     rw rest (closes seps reaches (start_of seps arc) arc k (state (start_of seps arc) (rw starts_there at within)) taken refl
-        (rw (is_path, starts_there) at k_within) (rw (is_path, starts_there, ends_there) at visited) (rw (ends_there, is_asked) at more))
+    (rw (is_path, starts_there) at k_within) (rw (is_path, starts_there, ends_there) at visited) (rw (ends_there, is_asked) at more))
 
 -- `rises`, by what the code has at hand
-pub rises_at : (seps : List Sep) (reaches : List Reach) (from to : ℕ) (arc : CycleArc) (path longer : List CycleArc) (asked : ℤ) (value : ℕ) → IsState seps reaches → from < length reaches → to < length reaches → IsArc seps arc → from ≡ start_of seps arc → to ≡ end_of seps arc → path ≡ (reach_at reaches from).path → list_any (eqb to) (starts seps path ++ from ∷ []) ≡ false → longer ≡ path ++ arc ∷ [] → asked ≡ asked_by seps reaches arc → pos (value_at reaches to) <ℤ asked → value ≡ nat_abs asked → IsRaised seps reaches (slice_set reaches to (record { value = value; path = longer }))
+pub rises_at : (seps : List Sep) (reaches : List Reach) (from to : ℕ) (arc : CycleArc) (path longer : List CycleArc) (asked : ℤ) (value : ℕ) →
+    IsState seps reaches → from < length reaches → to < length reaches → IsArc seps arc → from ≡ start_of seps arc →
+    to ≡ end_of seps arc → path ≡ (reach_at reaches from).path → list_any (eqb to) (starts seps path ++ from ∷ []) ≡ false →
+    longer ≡ path ++ arc ∷ [] → asked ≡ asked_by seps reaches arc → pos (value_at reaches to) <ℤ asked → value ≡ nat_abs asked →
+    IsRaised seps reaches (slice_set reaches to (record { value = value; path = longer }))
 rises_at seps reaches from to arc path longer asked value state from_within to_within taken starts_there ends_there is_path apart is_longer is_asked more is_value =
     let whole : asked ≡ pos value = omega (arith, ints) in
     let longer_is : longer ≡ (reach_at reaches (start_of seps arc)).path ++ arc ∷ [] =
-        is_longer ∙ ap (λ (xs : List CycleArc). xs ++ arc ∷ []) (is_path ∙ ap (λ v. (reach_at reaches v).path) starts_there) in
+    is_longer ∙ ap (λ (xs : List CycleArc). xs ++ arc ∷ []) (is_path ∙ ap (λ v. (reach_at reaches v).path) starts_there) in
     let above : value_at reaches (end_of seps arc) < value = let there : value_at reaches to ≡ value_at reaches (end_of seps arc) = ap (value_at reaches) ends_there in omega (arith, ints) in
     rw (longer_is, ends_there) (rises seps reaches (start_of seps arc) arc value state (rw starts_there at from_within) (rw ends_there at to_within) taken refl
-        (sym is_asked ∙ whole) above (rw (is_path, starts_there, ends_there) at apart))
+    (sym is_asked ∙ whole) above (rw (is_path, starts_there, ends_there) at apart))

@@ -1,5 +1,5 @@
--- Arcs of a list of separations, and the positive cycles that make the list infeasible. The idea is that of the longest path in a graph of
--- difference constraints (Bellman and Ford); exact separations, which are arcs both ways, are this project's own.
+-- Arcs of a list of separations, and the positive cycles that make the list infeasible. The idea is that of the longest paths in
+-- a graph of difference constraints (Bellman and Ford); exact separations, which are arcs both ways, are this project's own.
 use Rattle.std.specs.Prelude.{◌≡◌, ℕ, ◌<◌, ℤ, pos, neg_ℤ, ◌+ℤ◌, ◌<ℤ◌, List, [], ◌∷◌, length, map, Bool, true, false, IsTrue, nat_eq, slice_index_or, if◌then◌else◌}
 use Rattle.std.specs.List.{IsDistinct}
 use Rattle.units.specs.declared.geometry.Sep.{Sep}
@@ -44,7 +44,8 @@ abbrev pub gap_sum : List Sep → List CycleArc → ℤ
 gap_sum seps [] = pos 0
 gap_sum seps (arc ∷ arcs) = gap_of seps arc +ℤ gap_sum seps arcs
 
--- a positive cycle: at least one arc, leading from a variable back to it, no variable the start of two arcs, gaps adding up to more than 0
+-- a positive cycle: at least one arc, leading from a variable back to it, no variable the start of two arcs, and gaps that add
+-- up to more than 0
 pub record IsPositiveCycle (seps : List Sep) (arcs : List CycleArc) : Type 0 where
   pub some : 0 < length arcs
   pub closed : (home : ℕ) × IsWalk seps home arcs home

@@ -28,7 +28,9 @@ is_cycle (Cycle arcs) = true
 
 -- round a positive cycle the places cancel: where one exists, no placement in fractions, with any denominator, satisfies the list
 abbrev pub NeverBoth : Type 0
-NeverBoth = (seps : List Sep) (arcs : List CycleArc) (ys : List ℤ) (q : ℕ) → IsPositiveCycle seps arcs → 1 ≤ q → ¬ SatisfiesAll ys q seps
+NeverBoth =
+    (seps : List Sep) (arcs : List CycleArc) (ys : List ℤ) (q : ℕ) →
+    IsPositiveCycle seps arcs → 1 ≤ q → ¬ SatisfiesAll ys q seps
 
 -- each list of separations has whole places that satisfy it, or a positive cycle
 abbrev pub OneOfBoth : Type 0

@@ -1,13 +1,12 @@
 -- The state of the search: for each variable a value, and a path of arcs that shows how it came to it.
-use Rattle.std.specs.Prelude.{◌≡◌, ℕ, ◌+◌, ◌<◌, ℤ, pos, ◌+ℤ◌, ◌≤ℤ◌, List, [], ◌∷◌, ◌++◌, length, map, nat_eq, slice_index_or, Bool, MatchBool}
+use Rattle.std.specs.Prelude.{◌≡◌, ℕ, ◌+◌, ◌<◌, ℤ, pos, ◌+ℤ◌, ◌≤ℤ◌, List, [], ◌∷◌, ◌++◌, length, map, nat_eq, slice_index_or}
 use Rattle.std.specs.List.{IsDistinct, sum_by}
 use Rattle.units.specs.declared.geometry.Sep.{Sep}
 use Rattle.cycle_test.specs.declared.arc.CycleArc.{CycleArc}
 use Rattle.cycle_test.specs.declared.reach.Reach.{Reach}
 use Rattle.cycle_test.specs.declared.reach.Outcome.{Outcome}
 use Rattle.cycle_test.specs.declared.reach.Outcome.TheVariants.{AtRest, Raised, Cycle}
-use Rattle.units.specs.Separation.{Satisfies}
-use Rattle.cycle_test.specs.Cycle.{IsArc, sep_at, start_of, end_of, gap_of, starts, IsPositiveCycle}
+use Rattle.cycle_test.specs.Cycle.{IsArc, start_of, end_of, gap_of, starts, IsPositiveCycle}
 
 -- how the variable was reached; past the end, not at all
 abbrev pub reach_at : List Reach → ℕ → Reach
@@ -33,10 +32,13 @@ values reaches = map (λ (reach : Reach). pos reach.value) reaches
 abbrev pub total : List Reach → ℕ
 total reaches = sum_by (λ (reach : Reach). reach.value) reaches
 
--- arcs that lead from one variable to another while the sum goes from low to high; where an arc starts, the sum so far is at most the present value there
+-- arcs that lead from one variable to another while the sum goes from low to high; where an arc starts, the sum so far is at most
+-- the present value there
 abbrev pub Climbs : List Sep → List Reach → ℕ → ℤ → List CycleArc → ℕ → ℤ → Type 0
 Climbs seps reaches from low [] to high = (from ≡ to) × (low ≡ high)
-Climbs seps reaches from low (arc ∷ arcs) to high = IsArc seps arc × (start_of seps arc ≡ from) × (low ≤ℤ pos (value_at reaches from)) × Climbs seps reaches (end_of seps arc) (low +ℤ gap_of seps arc) arcs to high
+Climbs seps reaches from low (arc ∷ arcs) to high =
+    IsArc seps arc × (start_of seps arc ≡ from) × (low ≤ℤ pos (value_at reaches from))
+    × Climbs seps reaches (end_of seps arc) (low +ℤ gap_of seps arc) arcs to high
 
 -- a variable's value is the sum of the gaps on its path, which visits no variable twice
 pub record IsReached (seps : List Sep) (reaches : List Reach) (v : ℕ) : Type 0 where
@@ -58,8 +60,3 @@ abbrev pub IsOutcome : List Sep → List Reach → List Reach → Type 0 → Out
 IsOutcome seps old new Rests AtRest = (new ≡ old) × Rests
 IsOutcome seps old new Rests Raised = IsRaised seps old new
 IsOutcome seps old new Rests (Cycle arcs) = IsPositiveCycle seps arcs
-
--- after the first k separations were tried: nothing changed and they are satisfied, or some value rose
-abbrev pub IsSwept : List Sep → List Reach → List Reach → Bool → ℕ → Type 0
-IsSwept seps old new raised k =
-    MatchBool raised (IsRaised seps old new) ((new ≡ old) × ((j : ℕ) → j < k → Satisfies (values old) 1 (sep_at seps j)))

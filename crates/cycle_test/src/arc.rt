@@ -16,7 +16,7 @@ impl CycleArc {
     ghost use Rattle.cycle_test.specs.Cycle.{IsArc, sep_at, start_of, end_of, gap_of};
 
     /// The variable that it leaves.
-    pub fn start(self, seps: &[Sep]) -> u16
+    pub(crate) fn start(self, seps: &[Sep]) -> u16
         requires { IsArc seps.now self }
         ensures { result ≡ start_of seps.now self }
     {
@@ -25,7 +25,7 @@ impl CycleArc {
     }
 
     /// The variable that it reaches.
-    pub fn end(self, seps: &[Sep]) -> u16
+    pub(crate) fn end(self, seps: &[Sep]) -> u16
         requires { IsArc seps.now self }
         ensures { result ≡ end_of seps.now self }
     {
@@ -34,7 +34,7 @@ impl CycleArc {
     }
 
     /// Its gap in diagram units, negated where it is taken back.
-    pub fn gap(self, seps: &[Sep]) -> i32
+    pub(crate) fn gap(self, seps: &[Sep]) -> i32
         requires arc { IsArc seps.now self }
         requires near { nat_abs (sep_at seps.now self.sep).gap ≤ 1000000 }
         ensures { result ≡ gap_of seps.now self }

@@ -7,5 +7,4 @@ ghost use Rattle.cycle_test.specs.Feasibility.{NeverBoth, OneOfBoth};
 pub fn feasibility_law()
     ensures never_both { NeverBoth }
     ensures one_of_both { OneOfBoth }
-{
-}
+{}

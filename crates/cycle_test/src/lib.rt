@@ -8,5 +8,9 @@ mod relax;
 mod sweep;
 pub mod verdict;
 
+pub use arc::CycleArc;
+pub use law::feasibility_law;
+pub use verdict::{Verdict, test};
+
 #[cfg(test)]
 mod tests;

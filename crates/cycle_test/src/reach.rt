@@ -4,10 +4,9 @@ ghost use Rattle.std.specs.List.{All, list_any};
 ghost use Rattle.cycle_test.specs.Cycle.{IsArc, starts};
 ghost use Rattle.cycle_test.specs.Search.{reach_at, value_at};
 
-use crate::arc::CycleArc;
+use crate::CycleArc;
 use std::alloc::{AllocError, Global};
-use units::Sep;
-use units::Sequence;
+use units::{Sep, Sequence};
 
 /// A variable's value, and the path of arcs whose gaps add up to it.
 #[derive(Drop)]
@@ -41,7 +40,11 @@ pub fn path_of(reaches: &[Reach], variable: u16) -> &[CycleArc]
 }
 
 /// The arcs, and one more.
-pub fn extended(alloc: Global, arcs: &[CycleArc], arc: CycleArc) -> Result<Sequence<CycleArc>, AllocError>
+pub fn extended(
+    alloc: Global,
+    arcs: &[CycleArc],
+    arc: CycleArc,
+) -> Result<Sequence<CycleArc>, AllocError>
     ensures { IfOk result (λ longer. longer ≡ arcs.now ++ arc ∷ []) }
 {
     let mut longer = Vec::with_capacity(alloc, arcs.len() + 1)?;
@@ -62,5 +65,9 @@ pub fn visit(seps: &[Sep], path: &[CycleArc], last: u16, variable: u16) -> Optio
             return Some(k);
         }
     }
-    if last == variable { Some(path.len()) } else { None }
+    if last == variable {
+        Some(path.len())
+    } else {
+        None
+    }
 }

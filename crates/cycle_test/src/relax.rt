@@ -4,7 +4,7 @@ ghost use Rattle.units.specs.Problem.{IsSeparation};
 ghost use Rattle.cycle_test.specs.Cycle.{IsArc, start_of, end_of, gap_of};
 ghost use Rattle.cycle_test.specs.Search.{IsState, IsOutcome, IsContent, asked_by};
 
-use crate::arc::CycleArc;
+use crate::CycleArc;
 use crate::reach::{Outcome, Reach, extended, path_of, value_of, visit};
 use std::alloc::{AllocError, Global};
 use units::Sep;
@@ -19,7 +19,12 @@ fn asked_by(seps: &[Sep], reaches: &[Reach], arc: CycleArc) -> i64
 }
 
 /// Raises the value at the end of an arc where the arc asks for more, or closes a cycle where its path comes by there.
-pub fn relax(alloc: Global, seps: &[Sep], reaches: &mut Vec<Reach>, arc: CycleArc) -> Result<Outcome, AllocError>
+pub fn relax(
+    alloc: Global,
+    seps: &[Sep],
+    reaches: &mut Vec<Reach>,
+    arc: CycleArc,
+) -> Result<Outcome, AllocError>
     requires few { length reaches.old.items ≤ 258 }
     requires state { IsState seps.now reaches.old.items }
     requires sound { All (λ separation. IsSeparation (length reaches.old.items) separation) seps.now }

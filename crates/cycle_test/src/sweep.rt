@@ -5,14 +5,19 @@ ghost use Rattle.units.specs.Separation.{Satisfies, SatisfiesAll};
 ghost use Rattle.cycle_test.specs.Cycle.{sep_at};
 ghost use Rattle.cycle_test.specs.Search.{IsState, IsOutcome, values};
 
-use crate::arc::CycleArc;
+use crate::CycleArc;
 use crate::reach::{Outcome, Reach};
 use crate::relax::relax;
 use std::alloc::{AllocError, Global};
 use units::Sep;
 
 /// Tries a separation forwards and, where it is exact, back.
-fn relax_separation(alloc: Global, seps: &[Sep], reaches: &mut Vec<Reach>, sep: u16) -> Result<Outcome, AllocError>
+fn relax_separation(
+    alloc: Global,
+    seps: &[Sep],
+    reaches: &mut Vec<Reach>,
+    sep: u16,
+) -> Result<Outcome, AllocError>
     requires few { length reaches.old.items ≤ 258 }
     requires state { IsState seps.now reaches.old.items }
     requires sound { All (λ separation. IsSeparation (length reaches.old.items) separation) seps.now }
@@ -45,5 +50,9 @@ pub fn sweep(alloc: Global, seps: &[Sep], reaches: &mut Vec<Reach>) -> Result<Ou
             Outcome::Cycle(arcs) => return Ok(Outcome::Cycle(arcs)),
         }
     }
-    Ok(if raised { Outcome::Raised } else { Outcome::AtRest })
+    Ok(if raised {
+        Outcome::Raised
+    } else {
+        Outcome::AtRest
+    })
 }

@@ -2,8 +2,7 @@
 ghost use Rattle.std.specs.Prelude.{All, IsTrue};
 ghost use Rattle.units.specs.Problem.{IsSeparation};
 
-use crate::arc::CycleArc;
-use crate::verdict::{Verdict, test};
+use crate::{CycleArc, Verdict, test};
 use std::test::Fail;
 use units::Sep;
 
@@ -31,7 +30,11 @@ fn exactly(left: u16, right: u16, gap: i32) -> Sep {
 fn are_sound(n: u16, seps: &[Sep]) -> bool
     ensures { IsTrue result → All (λ separation. IsSeparation n separation) seps.now }
 {
-    seps.iter().all(|sep| sep.left < n && sep.right < n && sep.left != sep.right && -1_000_000 <= sep.gap && sep.gap <= 1_000_000)
+    seps.iter().all(|sep| sep.left < n
+        && sep.right < n
+        && sep.left != sep.right
+        && -1_000_000 <= sep.gap
+        && sep.gap <= 1_000_000)
 }
 
 /// What the gaps of the arcs add up to.

@@ -6,7 +6,7 @@ ghost use Rattle.cycle_test.specs.Cycle.{IsPositiveCycle, HasPositiveCycle};
 ghost use Rattle.cycle_test.specs.Feasibility.{IfPlaces, IfCycle, is_cycle};
 ghost use Rattle.cycle_test.specs.Search.{values};
 
-use crate::arc::CycleArc;
+use crate::CycleArc;
 use crate::reach::{Outcome, Reach};
 use crate::sweep::sweep;
 use std::alloc::{AllocError, Global};

@@ -12,13 +12,16 @@ use Rattle.cycle_test.proofs.Bounds.{within_limits, start_below, end_below, gap_
 use Rattle.cycle_test.proofs.relax.relax.Goals as goal
 
 -- what was read through a borrow of the state
-path_there : (reaches view : List Reach) (v : ℕ) (path : List CycleArc) → view ≡ reaches → path ≡ (reach_at view v).path → path ≡ (reach_at reaches v).path
+path_there : (reaches view : List Reach) (v : ℕ) (path : List CycleArc) → view ≡ reaches → path ≡ (reach_at view v).path →
+    path ≡ (reach_at reaches v).path
 path_there reaches view v path same is = is ∙ ap (λ (xs : List Reach). (reach_at xs v).path) same
 
-asked_there : (seps : List Sep) (reaches view : List Reach) (arc : CycleArc) (asked : ℤ) → view ≡ reaches → asked ≡ asked_by seps view arc → asked ≡ asked_by seps reaches arc
+asked_there : (seps : List Sep) (reaches view : List Reach) (arc : CycleArc) (asked : ℤ) → view ≡ reaches →
+    asked ≡ asked_by seps view arc → asked ≡ asked_by seps reaches arc
 asked_there seps reaches view arc asked same is = is ∙ ap (λ (xs : List Reach). asked_by seps xs arc) same
 
-more_there : (reaches view : List Reach) (v value : ℕ) (asked : ℤ) → view ≡ reaches → value ≡ value_at view v → pos value <ℤ asked → pos (value_at reaches v) <ℤ asked
+more_there : (reaches view : List Reach) (v value : ℕ) (asked : ℤ) → view ≡ reaches → value ≡ value_at view v → pos value <ℤ asked →
+    pos (value_at reaches v) <ℤ asked
 more_there reaches view v value asked same is more =
     let there : value_at view v ≡ value_at reaches v = ap (λ (xs : List Reach). value_at xs v) same in omega (arith, ints)
 
@@ -40,11 +43,11 @@ returns-in-Some c =
     let below = start_below seps (length reaches) 1000000 arc (within_limits (length reaches) seps c.requires.sound) c.requires.arc in
     let found = c.in-Some.ensures in
     closes_at seps reaches c.start-from.result c.end-to.result arc c.in-Some.k c.path_of-path.result.now c.in_ok-extended-in-Some.field-0 c.asked_by-asked.result
-        c.requires.state (rw (← c.start-from.ensures) at below) c.requires.arc c.start-from.ensures c.end-to.ensures
-        (path_there reaches c.deref-3.result.now c.start-from.result c.path_of-path.result.now c.deref-3.ensures.value c.path_of-path.ensures)
-        found.0 found.1 c.in_ok-extended-in-Some.ensures
-        (asked_there seps reaches c.deref.result.now arc c.asked_by-asked.result c.deref.ensures.value c.asked_by-asked.ensures)
-        (more_there reaches c.deref-2.result.now c.end-to.result c.value_of.result c.asked_by-asked.result c.deref-2.ensures.value c.value_of.ensures (omega (arith, ints)))
+    c.requires.state (rw (← c.start-from.ensures) at below) c.requires.arc c.start-from.ensures c.end-to.ensures
+    (path_there reaches c.deref-3.result.now c.start-from.result c.path_of-path.result.now c.deref-3.ensures.value c.path_of-path.ensures)
+    found.0 found.1 c.in_ok-extended-in-Some.ensures
+    (asked_there seps reaches c.deref.result.now arc c.asked_by-asked.result c.deref.ensures.value c.asked_by-asked.ensures)
+    (more_there reaches c.deref-2.result.now c.end-to.result c.value_of.result c.asked_by-asked.result c.deref-2.ensures.value c.value_of.ensures (omega (arith, ints)))
 
 pub overflow_cast-asked : goal.overflow_cast-asked
 overflow_cast-asked c =
@@ -72,9 +75,9 @@ returns c =
     let to_below = end_below seps (length reaches) 1000000 arc within c.requires.arc in
     let fits : SFits w64 c.asked_by-asked.result = search rules in
     rises_at seps reaches c.start-from.result c.end-to.result arc c.path_of-path.result.now c.in_ok-path.path c.asked_by-asked.result _
-        c.requires.state (rw (← c.start-from.ensures) at from_below) (rw (← c.end-to.ensures) at to_below) c.requires.arc c.start-from.ensures c.end-to.ensures
-        (path_there reaches c.deref-3.result.now c.start-from.result c.path_of-path.result.now c.deref-3.ensures.value c.path_of-path.ensures)
-        c.in-None.ensures c.in_ok-path.ensures
-        (asked_there seps reaches c.deref.result.now arc c.asked_by-asked.result c.deref.ensures.value c.asked_by-asked.ensures)
-        (more_there reaches c.deref-2.result.now c.end-to.result c.value_of.result c.asked_by-asked.result c.deref-2.ensures.value c.value_of.ensures (omega (arith, ints)))
-        (ap nat_abs (to_z-of_z w64 c.asked_by-asked.result fits))
+    c.requires.state (rw (← c.start-from.ensures) at from_below) (rw (← c.end-to.ensures) at to_below) c.requires.arc c.start-from.ensures c.end-to.ensures
+    (path_there reaches c.deref-3.result.now c.start-from.result c.path_of-path.result.now c.deref-3.ensures.value c.path_of-path.ensures)
+    c.in-None.ensures c.in_ok-path.ensures
+    (asked_there seps reaches c.deref.result.now arc c.asked_by-asked.result c.deref.ensures.value c.asked_by-asked.ensures)
+    (more_there reaches c.deref-2.result.now c.end-to.result c.value_of.result c.asked_by-asked.result c.deref-2.ensures.value c.value_of.ensures (omega (arith, ints)))
+    (ap nat_abs (to_z-of_z w64 c.asked_by-asked.result fits))

@@ -15,7 +15,7 @@ loop-sep-preserved c =
     let mid = c.loop-sep.reaches.items in
     let new = c.relax_separation.new.reaches.items in
     elim c.match-branch-2.branch [
-        in-AtRest w ↦ rw w.raised-is (swept_rest seps old mid new c.loop-sep.raised c.loop-sep.sep c.loop-sep.invariant (subst (IsOutcome seps mid new _) w.in-AtRest.is c.in_ok-relax_separation.ensures))
+      | in-AtRest w ↦ rw w.raised-is (swept_rest seps old mid new c.loop-sep.raised c.loop-sep.sep c.loop-sep.invariant (subst (IsOutcome seps mid new _) w.in-AtRest.is c.in_ok-relax_separation.ensures))
       | in-Raised w ↦ rw w.raised-is (swept_rise seps old mid new c.loop-sep.raised c.loop-sep.sep c.loop-sep.invariant (subst (IsOutcome seps mid new _) w.in-Raised.is c.in_ok-relax_separation.ensures))
     ]
 
@@ -25,6 +25,6 @@ returns c =
     let old = c.args.reaches.now.items in
     let new = c.loop-sep.reaches.items in
     elim c.if-raised.branch [
-        then-raised w ↦ rw w.result-is (swept_raised seps old new c.loop-sep.raised c.loop-sep.sep w.if-raised.true c.loop-sep.invariant)
+      | then-raised w ↦ rw w.result-is (swept_raised seps old new c.loop-sep.raised c.loop-sep.sep w.if-raised.true c.loop-sep.invariant)
       | else-raised w ↦ rw w.result-is (swept_at_rest seps old new c.loop-sep.raised c.loop-sep.sep w.if-raised.false (omega arith) c.loop-sep.invariant)
     ]

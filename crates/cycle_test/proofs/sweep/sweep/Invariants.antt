@@ -1,5 +1,5 @@
 use Rattle.std.proofs.Common.{◌≡◌}
-use Rattle.cycle_test.specs.Search.{IsSwept}
+use Rattle.cycle_test.proofs.Sweeps.{IsSwept}
 use Rattle.cycle_test.proofs.sweep.sweep.Given as goal
 
 abbrev pub invariant-loop-sep : goal.invariant-loop-sep

@@ -17,7 +17,7 @@ returns-in-AtRest c =
     let rest = subst (IsOutcome seps old new _) c.in-AtRest.is c.in_ok-sweep.ensures in
     let places = c.in_ok-places_of-in-AtRest.field-0 in
     let met = rests seps c.args.n old new places c.rounds.invariant.0 rest
-        (c.in_ok-places_of-in-AtRest.ensures ∙ ap (λ (xs : List Reach). values xs) c.deref.ensures.value) in
+    (c.in_ok-places_of-in-AtRest.ensures ∙ ap (λ (xs : List Reach). values xs) c.deref.ensures.value) in
     record { counted = met.0; satisfied = met.1; positive = tt; exactly = no_cycle seps places met.1 }
 
 pub rounds-smaller : goal.rounds-smaller
