@@ -1,11 +1,11 @@
 -- Round a positive cycle the places cancel.
-use Rattle.std.proofs.Common.{◌≡◌, ℕ, zero, suc, ◌+◌, ◌*◌, ◌<◌, ◌≤◌, ℤ, pos, negsuc, neg_ℤ, ◌+ℤ◌, ◌-ℤ◌, ◌*ℤ◌, ◌≤ℤ◌, ◌<ℤ◌, List, [], ◌∷◌, length, Bool, true, false, cond, slice_index_or, IsTrue, MatchBool, sym, refl, ap, ◌∙◌, arith, subst}
+use Rattle.std.proofs.Common.{◌≡◌, ℕ, zero, suc, ◌≤◌, ℤ, pos, negsuc, neg_ℤ, ◌+ℤ◌, ◌-ℤ◌, ◌*ℤ◌, ◌≤ℤ◌, ◌<ℤ◌, List, [], ◌∷◌, Bool, true, false, cond, IsTrue, refl, ap, arith}
 use Rattle.std.proofs.lemmas.Int.{ints}
 use Rattle.std.proofs.lemmas.Bool.{false≢true}
 use Rattle.units.specs.declared.geometry.Sep.{Sep}
 use Rattle.units.specs.Separation.{IsApart, Satisfies, SatisfiesAll, place_of}
 use Rattle.cycle_test.specs.declared.arc.CycleArc.{CycleArc}
-use Rattle.cycle_test.specs.Cycle.{IsArc, sep_at, no_sep, start_of, end_of, gap_of, gap_sum, IsWalk, IsPositiveCycle}
+use Rattle.cycle_test.specs.Cycle.{sep_at, no_sep, start_of, end_of, gap_of, gap_sum, IsWalk, IsPositiveCycle}
 
 -- q times a number, one more time
 times_suc : (q : ℕ) (z : ℤ) → pos (suc q) *ℤ z ≡ (pos q *ℤ z) +ℤ z

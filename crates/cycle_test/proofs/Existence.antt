@@ -1,17 +1,17 @@
 -- Each list of separations has places that satisfy it, or a positive cycle: the search, followed in the logic.
-use Rattle.std.proofs.Common.{◌≡◌, ℕ, zero, suc, ◌+◌, ◌-◌, ◌*◌, ◌<◌, ◌≤◌, ℤ, pos, neg_ℤ, nat_abs, ◌+ℤ◌, ◌-ℤ◌, ◌*ℤ◌, ◌≤ℤ◌, ◌<ℤ◌, List, [], ◌∷◌, ◌++◌, length, drop, replicate, Bool, true, false, eqb, slice_index_or, slice_set, IsTrue, ◌⊎◌, inl, inr, ⊎_elim, sym, refl, ap, ◌∙◌, arith, subst}
+use Rattle.std.proofs.Common.{◌≡◌, ℕ, zero, suc, ◌+◌, ◌-◌, ◌*◌, ◌<◌, ◌≤◌, ℤ, pos, neg_ℤ, nat_abs, ◌+ℤ◌, ◌*ℤ◌, ◌≤ℤ◌, ◌<ℤ◌, List, [], ◌∷◌, ◌++◌, length, drop, replicate, Bool, true, false, eqb, slice_set, IsTrue, ◌⊎◌, inl, inr, ⊎_elim, sym, refl, ◌∙◌, arith, subst}
 use Rattle.std.proofs.lemmas.Int.{ints, by_lt_z}
 use Rattle.std.proofs.lemmas.Bool.{cases_eq, false≢true, eqb-true}
-use Rattle.std.specs.List.{All, list_any}
+use Rattle.std.specs.List.{list_any}
 use Rattle.std.proofs.Math.ListN.{get_or-map}
 use Rattle.std.proofs.lemmas.List.{get_or_read, length-append}
 use Rattle.std.proofs.lemmas.List.Elements.{All-nil, All-cons, All-weaker, All-from_get_or}
 use Rattle.std.proofs.lemmas.List.Folds.{Any-from_list_any}
 use Rattle.units.specs.declared.geometry.Sep.{Sep}
-use Rattle.units.specs.Separation.{IsApart, Satisfies, SatisfiesAll, place_of}
+use Rattle.units.specs.Separation.{IsApart, Satisfies, place_of}
 use Rattle.cycle_test.specs.declared.arc.CycleArc.{CycleArc}
 use Rattle.cycle_test.specs.declared.reach.Reach.{Reach}
-use Rattle.cycle_test.specs.Cycle.{sep_at, no_sep, IsArc, start_of, end_of, gap_of, starts, HasPositiveCycle}
+use Rattle.cycle_test.specs.Cycle.{sep_at, no_sep, IsArc, start_of, end_of, starts, HasPositiveCycle}
 use Rattle.cycle_test.specs.Feasibility.{HasPlaces}
 use Rattle.cycle_test.specs.Search.{reach_at, value_at, asked_by, values, total, IsState, IsRaised}
 use Rattle.cycle_test.proofs.Walks.{length_starts}

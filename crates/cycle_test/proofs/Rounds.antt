@@ -1,9 +1,8 @@
 -- The rounds of the search: how they begin, that they come to an end, and what they end with.
-use Rattle.std.proofs.Common.{◌≡◌, ℕ, ◌-◌, ◌*◌, ◌<◌, ◌≤◌, ℤ, pos, List, [], ◌∷◌, ◌++◌, length, map, replicate, nat_eq, sym, refl, ap, ◌∙◌, arith, subst}
-use Rattle.std.specs.List.{All, IsDistinct}
+use Rattle.std.proofs.Common.{◌≡◌, ℕ, ◌-◌, ◌*◌, ◌<◌, ℤ, pos, List, [], ◌∷◌, ◌++◌, length, replicate, nat_eq, sym, refl, ap, ◌∙◌, arith, subst}
+use Rattle.std.specs.List.{IsDistinct}
 use Rattle.std.proofs.lemmas.List.{length-map, length-replicate, get_or-replicate}
 use Rattle.units.specs.declared.geometry.Sep.{Sep}
-use Rattle.units.specs.Problem.{IsSeparation}
 use Rattle.units.specs.Separation.{SatisfiesAll}
 use Rattle.cycle_test.specs.declared.reach.Reach.{Reach}
 use Rattle.cycle_test.specs.Cycle.{starts}

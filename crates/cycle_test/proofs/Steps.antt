@@ -1,8 +1,8 @@
 -- One arc that asks for more than the value where it ends: it closes a positive cycle, or raises that value.
-use Rattle.std.proofs.Common.{◌≡◌, ◌≢◌, ℕ, ◌+◌, ◌-◌, ◌<◌, ◌≤◌, nat_abs, ℤ, pos, ◌+ℤ◌, ◌≤ℤ◌, ◌<ℤ◌, List, [], ◌∷◌, ◌++◌, length, map, take, drop, nat_eq, eqb, true, false, slice_index_or, slice_set, sym, refl, ap, ◌∙◌, arith, subst, ⊎_elim, ◌⊎◌}
+use Rattle.std.proofs.Common.{◌≡◌, ℕ, ◌-◌, ◌<◌, ◌≤◌, nat_abs, ℤ, pos, ◌+ℤ◌, ◌≤ℤ◌, ◌<ℤ◌, List, [], ◌∷◌, ◌++◌, length, take, drop, nat_eq, eqb, false, slice_index_or, slice_set, sym, refl, ap, ◌∙◌, arith, subst, ⊎_elim}
 use Rattle.std.proofs.lemmas.Int.{ints}
 use Rattle.std.proofs.lemmas.List.Elements.{All-nil, All-cons}
-use Rattle.std.specs.List.{All, IsDistinct, list_any, sum_by}
+use Rattle.std.specs.List.{All, IsDistinct, list_any}
 use Rattle.std.specs.Cmp.{nat_eq_equiv}
 use Rattle.std.proofs.lemmas.List.{take_all, get_or-set_same, get_or-set_other, length-set, length-append, length-drop}
 use Rattle.std.proofs.lemmas.List.Sums.{sum_by-set}
@@ -12,7 +12,7 @@ use Rattle.units.specs.declared.geometry.Sep.{Sep}
 use Rattle.cycle_test.specs.declared.arc.CycleArc.{CycleArc}
 use Rattle.cycle_test.specs.declared.reach.Reach.{Reach}
 use Rattle.cycle_test.specs.Cycle.{IsArc, start_of, end_of, gap_of, gap_sum, starts, IsWalk, IsPositiveCycle}
-use Rattle.cycle_test.specs.Search.{reach_at, value_at, asked_by, total, Climbs, IsReached, IsState, IsRaised}
+use Rattle.cycle_test.specs.Search.{reach_at, value_at, asked_by, Climbs, IsReached, IsState, IsRaised}
 use Rattle.cycle_test.proofs.Walks.{walk_of, sum_of, climbs_push, climbs_rise, climbs_from, distinct_drop, starts_push, starts_drop}
 
 -- the arcs of a walk are arcs of the list

@@ -1,15 +1,14 @@
 -- Outcomes one after another.
-use Rattle.std.proofs.Common.{◌≡◌, ℕ, ◌+◌, ◌<◌, ◌≤◌, ℤ, List, length, Bool, true, false, MatchBool, sym, refl, ap, ◌∙◌, arith, subst, ⊎_elim}
+use Rattle.std.proofs.Common.{◌≡◌, ℕ, ◌+◌, ◌<◌, ◌≤◌, List, length, Bool, true, false, MatchBool, sym, ap, ◌∙◌, arith, subst, ⊎_elim}
 use Rattle.std.proofs.lemmas.Bool.{cases_eq}
-use Rattle.std.specs.List.{All}
 use Rattle.std.proofs.lemmas.List.Elements.{All-from_get_or}
 use Rattle.units.specs.declared.geometry.Sep.{Sep}
 use Rattle.units.specs.Separation.{Satisfies, SatisfiesAll}
 use Rattle.cycle_test.specs.declared.reach.Reach.{Reach}
 use Rattle.cycle_test.specs.declared.reach.Outcome.{Outcome}
-use Rattle.cycle_test.specs.declared.reach.Outcome.TheVariants.{AtRest, Raised}
+use Rattle.cycle_test.specs.declared.reach.Outcome.TheVariants.{AtRest}
 use Rattle.cycle_test.specs.Cycle.{sep_at, no_sep}
-use Rattle.cycle_test.specs.Search.{values, total, IsState, IsRaised, IsOutcome}
+use Rattle.cycle_test.specs.Search.{values, IsState, IsRaised, IsOutcome}
 
 -- after the first k separations were tried: nothing changed and they are satisfied, or some value rose
 abbrev pub IsSwept : List Sep → List Reach → List Reach → Bool → ℕ → Type 0

@@ -1,5 +1,5 @@
 -- Places say that there is no positive cycle.
-use Rattle.std.proofs.Common.{◌↔◌, ℕ, ℤ, List, IsTrue, false, arith}
+use Rattle.std.proofs.Common.{◌↔◌, ℤ, List, IsTrue, false, arith}
 use Rattle.std.proofs.lemmas.Bool.{false≢true}
 use Rattle.units.specs.declared.geometry.Sep.{Sep}
 use Rattle.units.specs.Separation.{SatisfiesAll}

@@ -1,17 +1,14 @@
 -- Walks of arcs, and climbs: walks on which the sum of the gaps so far is at most the present value of each variable passed.
-use Rattle.std.proofs.Common.{◌≡◌, ℕ, zero, suc, ◌+◌, ◌*◌, ◌<◌, ◌≤◌, ℤ, pos, ◌+ℤ◌, ◌≤ℤ◌, ◌<ℤ◌, List, [], ◌∷◌, ◌++◌, length, map, drop, nat_eq, eqb, true, false, slice_index_or, nat_abs, sym, refl, ap, ◌∙◌, arith, IsTrue}
+use Rattle.std.proofs.Common.{◌≡◌, ℕ, zero, suc, ◌≤◌, ℤ, pos, ◌+ℤ◌, ◌≤ℤ◌, List, [], ◌∷◌, ◌++◌, length, drop, nat_eq, slice_index_or, sym, refl, ap, ◌∙◌, arith}
 use Rattle.std.proofs.lemmas.Int.{ints}
-use Rattle.std.specs.List.{All, IsDistinct, list_any}
+use Rattle.std.specs.List.{IsDistinct}
 use Rattle.std.proofs.lemmas.List.{map-append, drop-append-le, drop-map}
-use Rattle.std.proofs.lemmas.Bool.{eqb-true}
-use Rattle.std.proofs.lemmas.Bool.Decides.{eqb_tells}
 use Rattle.std.proofs.lemmas.Map.Keys.{IsDistinct-tail}
 use Rattle.units.specs.declared.geometry.Sep.{Sep}
-use Rattle.units.specs.Problem.{IsSeparation}
 use Rattle.cycle_test.specs.declared.arc.CycleArc.{CycleArc}
 use Rattle.cycle_test.specs.declared.reach.Reach.{Reach}
-use Rattle.cycle_test.specs.Cycle.{IsArc, start_of, end_of, gap_of, gap_sum, starts, IsWalk, IsPositiveCycle}
-use Rattle.cycle_test.specs.Search.{reach_at, value_at, Climbs}
+use Rattle.cycle_test.specs.Cycle.{IsArc, start_of, end_of, gap_of, gap_sum, starts, IsWalk}
+use Rattle.cycle_test.specs.Search.{value_at, Climbs}
 
 -- a climb is a walk
 pub walk_of : (seps : List Sep) (reaches : List Reach) (from : ℕ) (low : ℤ) (arcs : List CycleArc) (to : ℕ) (high : ℤ) →

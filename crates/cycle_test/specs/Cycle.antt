@@ -1,6 +1,6 @@
 -- Arcs of a list of separations, and the positive cycles that make the list infeasible. The idea is that of the longest paths in
 -- a graph of difference constraints (Bellman and Ford); exact separations, which are arcs both ways, are this project's own.
-use Rattle.std.specs.Prelude.{◌≡◌, ℕ, ◌<◌, ℤ, pos, neg_ℤ, ◌+ℤ◌, ◌<ℤ◌, List, [], ◌∷◌, length, map, Bool, true, false, IsTrue, nat_eq, slice_index_or, if◌then◌else◌}
+use Rattle.std.specs.Prelude.{◌≡◌, ℕ, ◌<◌, ℤ, pos, neg_ℤ, ◌+ℤ◌, ◌<ℤ◌, List, [], ◌∷◌, length, map, false, IsTrue, nat_eq, slice_index_or, if◌then◌else◌}
 use Rattle.std.specs.List.{IsDistinct}
 use Rattle.units.specs.declared.geometry.Sep.{Sep}
 use Rattle.cycle_test.specs.declared.arc.CycleArc.{CycleArc}

@@ -1,5 +1,5 @@
 -- When a list of separations is feasible, what the test answers, and the law that ties the two.
-use Rattle.std.specs.Prelude.{◌≡◌, ℕ, ◌≤◌, ℤ, List, length, Bool, true, false, ◌⊎◌}
+use Rattle.std.specs.Prelude.{ℕ, ◌≤◌, ℤ, List, Bool, true, false, ◌⊎◌}
 use Rattle.units.specs.Separation.{SatisfiesAll}
 use Rattle.units.specs.declared.geometry.Sep.{Sep}
 use Rattle.cycle_test.specs.Cycle.{IsPositiveCycle, HasPositiveCycle}

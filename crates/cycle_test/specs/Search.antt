@@ -1,5 +1,5 @@
 -- The state of the search: for each variable a value, and a path of arcs that shows how it came to it.
-use Rattle.std.specs.Prelude.{◌≡◌, ℕ, ◌+◌, ◌<◌, ℤ, pos, ◌+ℤ◌, ◌≤ℤ◌, List, [], ◌∷◌, ◌++◌, length, map, nat_eq, slice_index_or}
+use Rattle.std.specs.Prelude.{◌≡◌, ℕ, ◌<◌, ℤ, pos, ◌+ℤ◌, ◌≤ℤ◌, List, [], ◌∷◌, ◌++◌, length, map, nat_eq, slice_index_or}
 use Rattle.std.specs.List.{IsDistinct, sum_by}
 use Rattle.units.specs.declared.geometry.Sep.{Sep}
 use Rattle.cycle_test.specs.declared.arc.CycleArc.{CycleArc}

@@ -1,11 +1,11 @@
-use Rattle.std.proofs.Common.{◌≡◌, ℕ, ℤ, ◌+ℤ◌, ◌<◌, ◌≤◌, T, Fits, w32, w64, nat_abs, ap, ◌∙◌, rules, ◌++◌, ◌∷◌, [], List, length, arith, drop, sym, subst, pos, ◌<ℤ◌, ◌≤ℤ◌}
+use Rattle.std.proofs.Common.{◌≡◌, ℕ, ℤ, ◌≤◌, T, Fits, w32, w64, nat_abs, ap, ◌∙◌, rules, List, length, arith, pos, ◌<ℤ◌, ◌≤ℤ◌}
 use Rattle.std.proofs.lemmas.Int.{ints, to_z-of_z}
 use mir.Val.{SFits}
 use lib.Signed.{non_neg}
 use Rattle.units.specs.declared.geometry.Sep.{Sep}
 use Rattle.cycle_test.specs.declared.arc.CycleArc.{CycleArc}
 use Rattle.cycle_test.specs.declared.reach.Reach.{Reach}
-use Rattle.cycle_test.specs.Cycle.{start_of, end_of}
+use Rattle.cycle_test.specs.Cycle.{start_of}
 use Rattle.cycle_test.specs.Search.{reach_at, value_at, asked_by}
 use Rattle.cycle_test.proofs.Steps.{closes_at, rises_at, path_taken}
 use Rattle.cycle_test.proofs.Bounds.{within_limits, start_below, end_below, gap_near, value_below}

@@ -1,4 +1,3 @@
-use Rattle.cycle_test.specs.Search.{IsContent}
 use Rattle.cycle_test.proofs.Sweeps.{state_same, same_at_rest}
 use Rattle.cycle_test.proofs.sweep.relax_separation.Goals as goal
 

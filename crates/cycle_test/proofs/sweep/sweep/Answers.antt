@@ -1,5 +1,5 @@
-use Rattle.std.proofs.Common.{◌≡◌, subst, sym, rules, arith}
-use Rattle.cycle_test.specs.Search.{IsOutcome, IsSwept}
+use Rattle.std.proofs.Common.{subst, arith}
+use Rattle.cycle_test.specs.Search.{IsOutcome}
 use Rattle.cycle_test.proofs.Sweeps.{swept_state, swept_rest, swept_rise, swept_raised, swept_at_rest}
 use Rattle.cycle_test.proofs.sweep.sweep.Goals as goal
 use Rattle.cycle_test.proofs.sweep.sweep.Goals.{in-AtRest, in-Raised, then-raised, else-raised}

@@ -1,4 +1,3 @@
-use Rattle.std.proofs.Common.{◌≡◌}
 use Rattle.cycle_test.proofs.Sweeps.{IsSwept}
 use Rattle.cycle_test.proofs.sweep.sweep.Given as goal
 
