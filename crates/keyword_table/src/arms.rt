@@ -17,7 +17,7 @@
 #[macro_export]
 macro_rules! arms {
     ((words) $($word:literal => $variant:path),+ $(,)?) => {
-        [$($word.as_slice()),+]
+        [$($word),+]
     };
     ((read $row:expr) $($table:tt)+) => {
         $crate::arms!(@read ($row) [] [0 1 2 3 4 5 6 7 8 9 10 11 12 13 14 15 16 17 18 19 20 21 22 23 24 25 26 27 28 29 30 31] $($table)+)

@@ -1,7 +1,7 @@
-ghost use Rattle.std.specs.Prelude.{◌≡◌, ◌↔◌, Some, None, IfSome, IsNone};
+ghost use Rattle.std.specs.Prelude.{◌≡◌};
 
 use super::*;
-use std::alloc::Global;
+use std::alloc::AllocError;
 use std::test::Fail;
 
 #[derive(Clone, Copy, Debug, PartialEq, Eq)]
@@ -23,14 +23,22 @@ macro_rules! corners {
 }
 
 fn read_corner(word: &[u8]) -> Option<Corner> {
-    let words = Words::<3>::new(corners!(words));
+    let words = Words::<3>::new(&corners!(words));
     corners!(read words.find(word))
 }
 
-fn print_corner(corner: Corner, text: &mut Vec<u8>) -> Result<(), std::alloc::AllocError> {
-    let words = Words::<3>::new(corners!(words));
+fn print_corner(corner: Corner, text: &mut Vec<u8>) -> Result<(), AllocError> {
+    let words = Words::<3>::new(&corners!(words));
     text.extend_from_slice(words.word(corners!(print corner)))?;
     Ok(())
+}
+
+// What is printed is read back.
+fn read_back(corner: Corner) -> Option<Corner>
+    ensures { result ≡ Some corner }
+{
+    let words = Words::<3>::new(&corners!(words));
+    corners!(read words.find(words.word(corners!(print corner))))
 }
 
 #[test]
@@ -45,9 +53,33 @@ fn one_table_reads_and_prints(rt: HostRuntime) -> Result<(), Fail> {
         print_corner(corner, &mut text)?;
         assert_eq!(rt; text.as_slice(), spelling);
         assert_eq!(rt; read_corner(spelling), Some(corner));
+        assert_eq!(rt; read_back(corner), Some(corner));
     }
     for unknown in [b"".as_slice(), b"roun", b"rounds", b"Round", b"squarf"] {
         assert_eq!(rt; read_corner(unknown), None);
     }
     Ok(())
+}
+
+#[test]
+fn finds_every_row(rt: HostRuntime) {
+    let words = Words::<22>::new(&[
+        b"box", b"oval", b"diamond", b"size", b"move", b"shift", b"hold", b"free", b"remove",
+        b"link", b"unlink", b"guide", b"align", b"spread", b"rank", b"apart", b"group", b"page",
+        b"drop", b"undo", b"layout", b"where",
+    ]);
+    for (word, want) in [
+        (b"box".as_slice(), Some(0)),
+        (b"unlink", Some(10)),
+        (b"where", Some(21)),
+        (b"", None),
+        (b"boxes", None),
+        (b"bo", None),
+        (b"Box", None),
+    ] {
+        assert_eq!(rt; words.find(word), want);
+    }
+    for row in 0..22 {
+        assert_eq!(rt; words.find(words.word(row)), Some(row));
+    }
 }
