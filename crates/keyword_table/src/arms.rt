@@ -9,9 +9,9 @@
 /// }
 /// ```
 ///
-/// - `axes!(words)` is the array of its spellings, for `Words::new`.
-/// - `axes!(read row)` is the value of a row that `find` answered: of `Some(row)` a `Some`, and of `None` a `None`.
-/// - `axes!(print axis)` is the row of a value, for `word`.
+/// - `axes!(words)` is the array of its spellings, for `Words::<2>::new(&axes!(words))`.
+/// - `axes!(read words.find(word))` is the value of the row that was found, and `None` where none was.
+/// - `axes!(print axis)` is the row of a value, for `words.word(axes!(print axis))`.
 ///
 /// The values are paths of variants without fields. A table has at most 32 rows.
 #[macro_export]
