@@ -1,0 +1,4 @@
+pub mod Count
+pub mod Given
+pub mod Taken
+pub mod Totals
