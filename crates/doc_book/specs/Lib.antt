@@ -1,3 +1,4 @@
+pub mod Answers
 pub mod Document
 pub mod Finished
 pub mod Growing

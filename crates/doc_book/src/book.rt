@@ -1,7 +1,7 @@
 //! The book: a document that keeps its history legal.
-ghost use Rattle.std.specs.Prelude.{◌≡◌, ◌≤◌, [], length};
+ghost use Rattle.std.specs.Prelude.{◌≡◌, ◌↔◌, ◌≤◌, ◌<◌, ◌^◌, [], IsTrue, length};
 ghost use Rattle.doc_book.specs.Document.{Document};
-ghost use Rattle.doc_book.specs.History.{scene_at, places_at};
+ghost use Rattle.doc_book.specs.History.{scene_at, places_at, IsSettled};
 ghost use Rattle.doc_book.specs.Legal.{IsLegal};
 
 use crate::entries::Entry;
@@ -56,6 +56,7 @@ impl Book {
     pub fn history(&self) -> &[Entry]
         ensures value { result.now ≡ self.now.history }
         ensures legal { IsLegal self.now.history self.now.budget }
+        ensures short { length self.now.history < 2 ^ 32 }
     {
         &self.history
     }
@@ -65,6 +66,19 @@ impl Book {
         ensures { result ≡ length self.now.history }
     {
         self.history.len() as u32
+    }
+
+    /// The budget: how many frames may come before End.
+    pub fn budget(&self) -> u32
+        ensures { result ≡ self.now.budget }
+    {
+        self.budget
+    }
+
+    pub(crate) fn is_settled(&self) -> bool
+        ensures { IsTrue result ↔ IsSettled self.now.history }
+    {
+        self.settled
     }
 
     /// The scene of the history.

@@ -2,9 +2,14 @@
 #![tactic(auto)]
 
 pub mod book;
+mod editing;
 pub mod entries;
+pub mod laying;
 pub mod replies;
+mod scanning;
 
 pub use book::{Book, MOST_FRAMES};
+pub use editing::MOST_ENTRIES;
 pub use entries::{Act, Entry};
+pub use laying::{Finish, Laid, MOST_FINISHING};
 pub use replies::{Refused, Reply};

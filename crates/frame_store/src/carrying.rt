@@ -12,7 +12,12 @@ use units::{Axis, Memory, Sequence};
 
 /// The places after an edit that leads from one scene to another: a variable that stands in both with the same
 /// anchor and the same count of moves keeps its place, every other takes its anchor.
-pub fn carry(alloc: Global, before: &Scene, after: &Scene, places: &Places) -> Result<Places, Memory>
+pub fn carry(
+    alloc: Global,
+    before: &Scene,
+    after: &Scene,
+    places: &Places,
+) -> Result<Places, Memory>
     requires on_x { length places.now.x ≡ length (variables before.now axes.X) }
     requires on_y { length places.now.y ≡ length (variables before.now axes.Y) }
     ensures { IfOk result (λ next. next ≡ carried before.now after.now places.now) }

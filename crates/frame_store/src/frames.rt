@@ -3,9 +3,9 @@ ghost use Rattle.std.specs.Prelude.{◌≡◌, ◌↔◌, IfOk, IsTrue, map};
 ghost use Rattle.units.specs.Number.{clamped};
 ghost use Rattle.frame_store.specs.Frames.{drawn, proposal, IsFrameOf};
 
-use crate::places::{copied, Desired, Places};
+use crate::places::{Desired, Places, copied};
 use std::alloc::Global;
-use units::{clamp, Memory, Sequence};
+use units::{Memory, Sequence, clamp};
 
 /// One step of the layout: the places that it proposed and the places that it drew.
 #[derive(Drop)]

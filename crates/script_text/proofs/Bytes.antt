@@ -1,6 +1,6 @@
 -- No word of a command has a space or a LF.
 use Rattle.std.proofs.Common.{◌≡◌, ℕ, suc, ◌+◌, ◌<◌, ◌≤◌, ◌^◌, Bool, true, false, ◌&&◌, ◌||◌, leb, eqb, List, [], ◌∷◌, ◌++◌, refl, arith, inl, inr}
-use Rattle.std.specs.Prelude.{ℤ, pos, negsuc, nat_abs, ⊤, decimal}
+use Rattle.std.specs.Prelude.{ℤ, pos, negsuc, nat_abs, decimal}
 use Rattle.std.specs.List.{list_all, AllByRecursion}
 use Rattle.std.specs.Fmt.{signed_decimal}
 use Rattle.std.specs.Str.{all_ascii_digits}
@@ -16,7 +16,7 @@ use Rattle.script_text.specs.declared.scripts.Line.{Line}
 use Rattle.script_text.specs.Words.{Word, spaced}
 use Rattle.script_text.specs.Commands.{Field, NameField, NumberField, edit_word, command_word, command_fields, fields_words, AreFields, IsCommand, command_words}
 use Rattle.script_text.specs.Scripts.{line_text}
-use Rattle.script_text.proofs.Numerals.{IsMagnitude, decimal_is}
+use Rattle.script_text.proofs.Numerals.{decimal_is}
 use Rattle.script_text.proofs.WholeLines.{Lacks, AllLack, line_text-digit}
 
 -- each byte is at least `-`, so none is a space or a LF

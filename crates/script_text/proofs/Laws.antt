@@ -1,6 +1,5 @@
 -- The fields of a command: what is read is spelled so, and what is spelled so is read.
-use Rattle.std.proofs.Common.{◌≡◌, ℕ, ◌<◌, ◌^◌, Bool, true, false, cond, List, [], ◌∷◌, ◌++◌, map, Option, Some, None, refl, sym, ap, subst, ◌∙◌}
-use Rattle.std.specs.Prelude.{ℤ, codes, ⊤}
+use Rattle.std.proofs.Common.{◌≡◌, Bool, true, false, cond, List, [], ◌∷◌, ◌++◌, map, Option, Some, None, refl, sym, ap, subst, ◌∙◌}
 use Rattle.units.specs.Name.{is_name, name_of}
 use Rattle.scene_model.specs.declared.items.Form.TheVariants as form
 use Rattle.edit_rules.specs.declared.edits.Edit.{Edit}

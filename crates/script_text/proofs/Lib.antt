@@ -6,3 +6,4 @@ pub mod WholeLines
 pub mod Bytes
 pub mod WholeScripts
 pub mod Texts
+mod Examples

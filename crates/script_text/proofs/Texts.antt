@@ -1,7 +1,6 @@
 -- Bytes and the script that they spell.
-use Rattle.std.proofs.Common.{◌≡◌, ℕ, zero, suc, ◌+◌, ◌<◌, ◌≤◌, Bool, true, false, cond, eqb, List, [], ◌∷◌, ◌++◌, length, map, Result, Ok, Err, refl, sym, ap, subst, ◌∙◌, append_assoc, arith}
-use Rattle.std.specs.Prelude.{ℤ, pos, codes, bytes_eq, MatchResult, IfErr, if◌then◌else◌}
-use Rattle.std.specs.Global.{Vec}
+use Rattle.std.proofs.Common.{◌≡◌, ℕ, zero, suc, ◌+◌, Bool, true, false, cond, eqb, List, [], ◌∷◌, ◌++◌, map, Ok, Err, refl, sym, ap, ◌∙◌, append_assoc, arith}
+use Rattle.std.specs.Prelude.{ℤ, pos, codes, bytes_eq, if◌then◌else◌}
 use Rattle.std.specs.List.{concat, join_with_byte, AllByRecursion}
 use Rattle.std.proofs.lemmas.Slice.Eq.{bytes_eq-Decides}
 use Rattle.std.proofs.lemmas.List.Splits.{join_with_byte-slice_split}
@@ -12,8 +11,8 @@ use Rattle.edit_rules.specs.declared.edits.Edit.TheVariants as edit
 use Rattle.script_text.specs.Words.{Word}
 use Rattle.script_text.specs.Pieces.{pieces}
 use Rattle.script_text.specs.Commands.{Field, NameField, NumberField, edit_word, edit_fields, command_word, command_fields}
-use Rattle.script_text.specs.Scripts.{AreLines, IsScript, Spells, SpellsNone, IsFault, IsCause, line_text, with_lf}
-use Rattle.script_text.specs.Reading.{LineParts, line_parts, Read, lines_at, script_at, AreNumbered, Exact, Fails}
+use Rattle.script_text.specs.Scripts.{AreLines, IsScript, Spells, SpellsNone, IsCause, line_text, with_lf}
+use Rattle.script_text.specs.Reading.{LineParts, line_parts, Read, lines_at, script_at, AreNumbered, Fails}
 use Rattle.script_text.specs.declared.scripts.Command.{Command}
 use Rattle.script_text.specs.declared.scripts.Command.TheVariants as command
 use Rattle.script_text.specs.declared.scripts.Line.{Line}
@@ -24,7 +23,7 @@ use Rattle.script_text.specs.declared.faults.ReadFault.{ReadFault}
 use Rattle.script_text.specs.declared.faults.ReadFault.TheVariants as cause
 use Rattle.script_text.proofs.WholeLines.{Lacks, AllLack, split_lines}
 use Rattle.script_text.proofs.Bytes.{line_lacks}
-use Rattle.script_text.proofs.WholeScripts.{bodies, some_bodies, lines_again, lines_sound, SpellsRest}
+use Rattle.script_text.proofs.WholeScripts.{bodies, some_bodies, lines_again, lines_sound}
 
 -- ---- a command is known by its word and fields: a line for each command
 
@@ -148,7 +147,10 @@ script_sound bytes ls e n =
 no_script : (read : Read) (kind : FaultKind) (ls : List Line) → read ≡ Err kind → read ≡ ok (map line_parts ls) → ⊥
 no_script read kind ls e g = absurd cc
 
--- there is one fault at line 0
+-- bytes whose reading is refused spell no script
+pub none_if_refused : (bytes : List ℕ) {kind : FaultKind} → script_at (pieces 10 bytes) ≡ Err kind → SpellsNone bytes
+none_if_refused bytes e ls s = no_script (script_at (pieces 10 bytes)) _ ls e (script_again bytes ls s)
+
 at_zero : (f : ScriptFault) (line : ℕ) (kind : FaultKind) → f.line ≡ line → f.kind ≡ kind → f ≡ record { line = line; kind = kind }
 at_zero f line kind e g = rw (← e, ← g) refl
 
@@ -158,7 +160,7 @@ the_kind kind.NotYet = refl
 pub fault_sound : (bytes : List ℕ) (e : ReadFault) → Fails e (script_at (pieces 10 bytes)) → IsCause bytes e
 fault_sound bytes cause.Memory h = tt
 fault_sound bytes (cause.Fault f) h = record {
-  none = λ ls s. no_script (script_at (pieces 10 bytes)) f.kind ls h.1 (script_again bytes ls s);
+  none = none_if_refused bytes h.1;
   is = at_zero f 0 kind.NotYet h.0 (the_kind f.kind);
 }
 

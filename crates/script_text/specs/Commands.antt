@@ -1,6 +1,6 @@
 -- The commands of a script (they are this project's own): for each command its word and its fields, in the order
 -- of its line, and with them the words of its text.
-use Rattle.std.specs.Prelude.{◌≡◌, ℕ, ◌<◌, ◌^◌, ℤ, nat_abs, List, [], ◌∷◌, ◌++◌, codes, true, ⊤}
+use Rattle.std.specs.Prelude.{◌≡◌, ◌<◌, ◌^◌, ℤ, nat_abs, List, [], ◌∷◌, ◌++◌, codes, true, ⊤}
 use Rattle.std.specs.Fmt.{signed_decimal}
 use Rattle.units.specs.Name.{is_name}
 use Rattle.scene_model.specs.declared.items.Form.{Form}

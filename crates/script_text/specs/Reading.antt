@@ -1,6 +1,6 @@
 -- Reading from left to right, as functions on lists of pieces. Contracts of private functions speak of these; that
 -- they agree with the grammar is proved, and public contracts cite the grammar alone.
-use Rattle.std.specs.Prelude.{◌≡◌, ℕ, ◌+◌, ◌-◌, ◌^◌, List, [], ◌∷◌, ◌++◌, codes, length, map, drop, Bool, not, ◌&&◌, ◌==◌, nat_lt, nat_le, if◌then◌else◌, slice_index, bytes_eq, ⊤, Option, Some, None, Result, Ok, Err}
+use Rattle.std.specs.Prelude.{◌≡◌, ℕ, ◌+◌, ◌-◌, List, [], ◌∷◌, codes, length, map, drop, Bool, not, ◌&&◌, ◌==◌, nat_lt, nat_le, if◌then◌else◌, slice_index, bytes_eq, ⊤, Option, Some, None, Result, Ok, Err}
 use Rattle.std.specs.Global.{Vec}
 use Rattle.units.specs.Name.{name_of}
 use Rattle.script_text.specs.Words.{Word}

@@ -1,7 +1,7 @@
 -- Scripts, and the bytes that spell them (the format is this project's own).
 use Rattle.std.specs.Prelude.{◌≡◌, ℕ, ◌+◌, ◌≤◌, List, [], ◌∷◌, ◌++◌, codes, length, map, ⊤, decimal}
 use Rattle.std.specs.List.{concat}
-use Rattle.script_text.specs.Words.{Word, spaced}
+use Rattle.script_text.specs.Words.{spaced}
 use Rattle.script_text.specs.Commands.{IsCommand, command_words}
 use Rattle.script_text.specs.declared.scripts.Line.{Line}
 use Rattle.script_text.specs.declared.faults.FaultKind.TheVariants as kind

@@ -2,15 +2,18 @@
 #![tactic(auto)]
 
 pub mod faults;
-pub mod printing;
-pub mod reading;
-pub mod scripts;
 mod fields;
 mod lines;
 mod numbers;
 mod pieces;
+pub mod printing;
+pub mod reading;
+pub mod scripts;
 
 pub use faults::{FaultKind, ReadFault, ScriptFault};
 pub use printing::{command_text, edit_text};
 pub use reading::{one_script, read};
 pub use scripts::{Command, Line, Script};
+
+#[cfg(test)]
+mod tests;

@@ -90,5 +90,4 @@ pub fn read(alloc: Global, bytes: &[u8]) -> Result<Script, ReadFault>
 /// The law that bytes spell at most one script.
 pub fn one_script()
     ensures { (bytes : List ℕ) (a b : List Line) → Spells bytes a → Spells bytes b → a ≡ b }
-{
-}
+{}

@@ -1,4 +1,4 @@
-use Rattle.std.proofs.Common.{◌≡◌, ◌∙◌}
+use Rattle.std.proofs.Common.{◌∙◌}
 use Rattle.std.proofs.lemmas.Result.{err_from_is_err_and}
 use Rattle.script_text.proofs.Texts.{script_sound, one_script, fault_sound, only_memory}
 use Rattle.script_text.proofs.reading.read.Goals as goal

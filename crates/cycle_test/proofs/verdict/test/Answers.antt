@@ -1,0 +1,29 @@
+use Rattle.std.proofs.Common.{List, subst, ap, ◌∙◌}
+use Rattle.cycle_test.specs.declared.reach.Reach.{Reach}
+use Rattle.cycle_test.specs.Search.{IsOutcome, values}
+use Rattle.cycle_test.proofs.Bounds.{within_limits}
+use Rattle.cycle_test.proofs.Rounds.{begins, nearer, rests}
+use Rattle.cycle_test.proofs.Verdicts.{no_cycle}
+use Rattle.cycle_test.proofs.verdict.test.Goals as goal
+
+pub rounds-init : goal.rounds-init
+rounds-init c = begins c.args.seps.now c.args.n c.in_ok-reaches.reaches.items c.in_ok-reaches.ensures
+
+pub returns-in-AtRest : goal.returns-in-AtRest
+returns-in-AtRest c =
+    let seps = c.args.seps.now in
+    let old = c.rounds.reaches.items in
+    let new = c.sweep.new.reaches.items in
+    let rest = subst (IsOutcome seps old new _) c.in-AtRest.is c.in_ok-sweep.ensures in
+    let places = c.in_ok-places_of-in-AtRest.field-0 in
+    let met = rests seps c.args.n old new places c.rounds.invariant.0 rest
+    (c.in_ok-places_of-in-AtRest.ensures ∙ ap (λ (xs : List Reach). values xs) c.deref.ensures.value) in
+    record { counted = met.0; satisfied = met.1; positive = tt; exactly = no_cycle seps places met.1 }
+
+pub rounds-smaller : goal.rounds-smaller
+rounds-smaller c =
+    let seps = c.args.seps.now in
+    let old = c.rounds.reaches.items in
+    let new = c.sweep.new.reaches.items in
+    let rise = subst (IsOutcome seps old new _) c.in-Raised.is c.in_ok-sweep.ensures in
+    nearer seps c.args.n 1000000 old new (within_limits c.args.n seps c.requires.sound) c.rounds.invariant.0 rise

@@ -1,0 +1,131 @@
+-- What the book keeps, through one entry more.
+use Rattle.std.proofs.Common.{◌≡◌, ◌+◌, ◌<◌, ◌≤◌, ℕ, List, [], ◌∷◌, ◌++◌, Bool, true, false, cond, Option, Some, None, length, map, refl, ap, sym, ◌∙◌, subst, arith, zero, suc}
+use Rattle.std.proofs.lemmas.Bool.{false≢true}
+use Rattle.std.specs.Prelude.{◌↔◌, count_by, IsTrue, MatchOption}
+use Rattle.std.proofs.lemmas.List.{length-append, length-map}
+use Rattle.units.specs.Number.{clamped}
+use Rattle.units.specs.declared.geometry.Axis.TheVariants.{X, Y}
+use Rattle.scene_model.specs.Diagram.{Diagram}
+use Rattle.scene_model.specs.Variables.{variables}
+use Rattle.edit_rules.specs.declared.edits.Edit.{Edit}
+use Rattle.edit_rules.specs.Effects.{edited, scene_of}
+use Rattle.frame_store.specs.declared.places.Places.{Places}
+use Rattle.frame_store.specs.declared.places.Desired.{Desired}
+use Rattle.frame_store.specs.declared.frames.Frame.{Frame}
+use Rattle.frame_store.specs.Frames.{drawn, IsFrameOf}
+use Rattle.frame_store.specs.Carry.{carried, kept_place}
+use Rattle.doc_book.specs.declared.entries.Entry.{Entry}
+use Rattle.doc_book.specs.declared.entries.Act.{Act}
+use Rattle.doc_book.specs.declared.entries.Act.TheVariants as act
+use Rattle.doc_book.specs.Growing.{entry_of}
+use Rattle.doc_book.specs.History.{standing, scene_at, places_at, is_end, is_frame, end_place, after_end, frame_count, IsSettled}
+use Rattle.doc_book.specs.Kept.{IsKept, IsOpenCount, IsEndedCount}
+use Rattle.doc_book.specs.Legal.{HasRoom}
+use Rattle.doc_book.specs.Verdicts.{verdict, most_entries}
+use Rattle.doc_book.proofs.Growing.{fold-push, scene_at-push, scene_of-push, places_at-push, IsLegal-push, IsSettled-push, IsSettled-push_frame, IsSettled-push_same, end_place-push_none, end_place-push_end, end_place-push_some, after_end-push_some, after_end-push_end}
+use Rattle.doc_book.proofs.Refusing.{not_ended, not_full}
+
+frame_count-push : (h : List Entry) (e : Entry) → frame_count (h ++ e ∷ []) ≡ frame_count h + cond (is_frame e) 1 0
+frame_count-push h e = fold-push (λ n (x : Entry). n + cond (is_frame x) 1 0) 0 h e
+
+length-push : (h : List Entry) (e : Entry) → length (h ++ e ∷ []) ≡ length h + 1
+length-push h e = length-append h (e ∷ [])
+
+-- an edit that the history accepts
+pub IsKept-edit : (h : List Entry) (budget : ℕ) (scene : Diagram) (places : Places) (settled : Bool) (who line : ℕ) (e : Edit) (scene' : Diagram) (places' : Places)
+    → IsKept h budget scene places settled → verdict h e ≡ None → scene' ≡ edited e scene → places' ≡ carried scene scene' places
+    → IsKept (h ++ entry_of who line (act.Edit e) ∷ []) budget scene' places' false
+IsKept-edit h budget scene places settled who line e scene' places' k accepted scene_is places_are =
+    let entry = entry_of who line (act.Edit e) in
+    let open_history = not_ended h e accepted in
+    let next : scene' ≡ scene_of (standing h ++ e ∷ []) = scene_is ∙ (ap (edited e) k.scene_is ∙ sym (scene_of-push (standing h) e)) in
+    let counts = subst (λ o. MatchOption o (IsOpenCount h budget) (λ _. IsEndedCount h budget)) open_history k.counts in
+    let full = not_full h e accepted in
+    let longer = length-push h entry in
+    let frames = frame_count-push h entry in
+    record {
+      legal = IsLegal-push h budget entry k.legal accepted;
+      scene_is = next ∙ sym (scene_at-push h entry);
+      places_are =
+          places_are
+          ∙ (ap (λ d. carried d scene' places) k.scene_is
+          ∙ (ap (λ d. carried (scene_at h) d places) next
+          ∙ (ap (carried (scene_at h) (scene_of (standing h ++ e ∷ []))) k.places_are ∙ sym (places_at-push h entry))));
+      on_x = ap (λ (p : Places). length p.x) places_are ∙ length-map (variables scene' X) (kept_place (variables scene X) places.x);
+      on_y = ap (λ (p : Places). length p.y) places_are ∙ length-map (variables scene' Y) (kept_place (variables scene Y) places.y);
+      settled_is = (λ t. absurd (false≢true t), λ s. absurd (false≢true (IsSettled-push_frame h entry s)));
+      budget_small = k.budget_small;
+      counts = subst (λ o. MatchOption o (IsOpenCount (h ++ entry ∷ []) budget) (λ _. IsEndedCount (h ++ entry ∷ []) budget)) (sym (end_place-push_none h entry open_history refl))
+          (record { frames = omega (arith, counts.frames, frames); entries = omega (arith, full, longer, frames) });
+    }
+
+counted_one : (b : Bool) → b ≡ true → cond b 1 0 ≡ suc zero
+counted_one b is = ap (λ t. cond t 1 0) is
+
+-- the counts with one frame more
+counts_with_frame : (h : List Entry) (budget : ℕ) (entry : Entry) → is_end entry ≡ false → is_frame entry ≡ true → (o : Option ℕ) → end_place h ≡ o
+    → MatchOption o (IsOpenCount h budget) (λ _. IsEndedCount h budget) → MatchOption o (frame_count h < budget) (λ _. length (after_end h) < 64)
+    → MatchOption (end_place (h ++ entry ∷ [])) (IsOpenCount (h ++ entry ∷ []) budget) (λ _. IsEndedCount (h ++ entry ∷ []) budget)
+counts_with_frame h budget entry other frame None is counts room =
+    let frames = frame_count-push h entry in
+    let longer = length-push h entry in
+    let one = counted_one (is_frame entry) frame in
+    subst (λ o. MatchOption o (IsOpenCount (h ++ entry ∷ []) budget) (λ _. IsEndedCount (h ++ entry ∷ []) budget)) (sym (end_place-push_none h entry is other))
+    (record { frames = omega (arith, room, frames, one); entries = omega (arith, counts.entries, longer, frames, one) })
+counts_with_frame h budget entry other frame (Some at) is counts room =
+    let frames = frame_count-push h entry in
+    let longer = length-push h entry in
+    let one = counted_one (is_frame entry) frame in
+    let behind = ap length (after_end-push_some h entry at is) ∙ length-push (after_end h) entry in
+    subst (λ o. MatchOption o (IsOpenCount (h ++ entry ∷ []) budget) (λ _. IsEndedCount (h ++ entry ∷ []) budget)) (sym (end_place-push_some h entry at is))
+    (record {
+      frames = omega (arith, counts.frames, frames, one, behind);
+      entries = omega (arith, counts.entries, longer, frames, one);
+      finishing = omega (arith, room, behind);
+    })
+
+-- the frame of the present places
+pub IsKept-frame : (h : List Entry) (budget : ℕ) (scene : Diagram) (places : Places) (settled : Bool) (who line : ℕ) (f : Frame) (places' : Places) (settled' : Bool)
+    → IsKept h budget scene places settled → HasRoom h budget → IsFrameOf (places_at h) f → places' ≡ drawn f → (IsTrue settled' ↔ (drawn f ≡ places))
+    → IsKept (h ++ entry_of who line (act.Frame f) ∷ []) budget scene places' settled'
+IsKept-frame h budget scene places settled who line f places' settled' k room is places_are settled_is =
+    let entry = entry_of who line (act.Frame f) in
+    let drawn_are : places_at (h ++ entry ∷ []) ≡ drawn f = places_at-push h entry in
+    record {
+      legal = IsLegal-push h budget entry k.legal (room, is);
+      scene_is = k.scene_is ∙ sym (scene_at-push h entry);
+      places_are = places_are ∙ sym drawn_are;
+      on_x =
+          ap (λ (p : Places). length p.x) places_are
+          ∙ (ap length is.on_x ∙ (ap (λ (d : Desired). length d.x) is.proposed ∙ (length-map (places_at h).x clamped ∙ (ap (λ (p : Places). length p.x) (sym k.places_are) ∙ k.on_x))));
+      on_y =
+          ap (λ (p : Places). length p.y) places_are
+          ∙ (ap length is.on_y ∙ (ap (λ (d : Desired). length d.y) is.proposed ∙ (length-map (places_at h).y clamped ∙ (ap (λ (p : Places). length p.y) (sym k.places_are) ∙ k.on_y))));
+      settled_is = (
+        λ t. IsSettled-push h entry refl (drawn_are ∙ (settled_is.0 t ∙ k.places_are)),
+        λ s. settled_is.1 (sym drawn_are ∙ (IsSettled-push_same h entry s ∙ sym k.places_are)),
+      );
+      budget_small = k.budget_small;
+      counts = counts_with_frame h budget entry refl refl (end_place h) refl k.counts room;
+    }
+
+-- End
+pub IsKept-end : (h : List Entry) (budget : ℕ) (scene : Diagram) (places : Places) (settled : Bool)
+    → IsKept h budget scene places settled → end_place h ≡ None → IsKept (h ++ entry_of 0 0 act.End ∷ []) budget scene places false
+IsKept-end h budget scene places settled k open_history =
+    let entry = entry_of 0 0 act.End in
+    let counts = subst (λ o. MatchOption o (IsOpenCount h budget) (λ _. IsEndedCount h budget)) open_history k.counts in
+    let longer = length-push h entry in
+    let frames = frame_count-push h entry in
+    let behind = ap length (after_end-push_end h entry open_history refl) in
+    record {
+      legal = IsLegal-push h budget entry k.legal (refl, refl, open_history);
+      scene_is = k.scene_is ∙ sym (scene_at-push h entry);
+      places_are = k.places_are ∙ sym (places_at-push h entry);
+      on_x = k.on_x;
+      on_y = k.on_y;
+      settled_is = (λ t. absurd (false≢true t), λ s. absurd (false≢true (IsSettled-push_frame h entry s)));
+      budget_small = k.budget_small;
+      counts = subst (λ o. MatchOption o (IsOpenCount (h ++ entry ∷ []) budget) (λ _. IsEndedCount (h ++ entry ∷ []) budget)) (sym (end_place-push_end h entry open_history refl))
+          (record { frames = omega (arith, counts.frames, frames, behind); entries = omega (arith, counts.entries, longer, frames); finishing = omega (arith, behind) });
+    }

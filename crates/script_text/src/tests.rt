@@ -1,0 +1,156 @@
+//! What no clause says: that scripts are read with ample memory, and which near misses are refused.
+use crate::{Command, FaultKind, Line, ReadFault, ScriptFault, command_text, edit_text, read};
+use edit_rules::Edit;
+use scene_model::Form;
+use std::alloc::Global;
+use std::test::Fail;
+use units::Name;
+
+fn first_box() -> Option<Edit> {
+    Some(Edit::Put {
+        name: Name::of(b"a")?,
+        form: Form::Box,
+        x: 3,
+        y: 4,
+        w: 40,
+        h: 20,
+    })
+}
+
+fn line(number: u32, command: Command) -> Line {
+    Line {
+        number,
+        session: 1,
+        command,
+    }
+}
+
+/// How many lines are read.
+fn count(alloc: Global, bytes: &[u8]) -> Result<usize, ReadFault> {
+    Ok(read(alloc, bytes)?.lines().len())
+}
+
+#[test]
+fn scripts_are_read(rt: HostRuntime) -> Result<(), Fail> {
+    let text = "dunnart 1\n1 box a 3 4 40 20\n1 layout\n1 layout\nend\n";
+    let script = read(rt.alloc(), text.as_bytes()).ok().ok_or("a script")?;
+    let command = Command::Edit(first_box().ok_or("a box")?);
+    let lines = [
+        line(2, command),
+        line(3, Command::Layout),
+        line(4, Command::Layout),
+    ];
+    assert_eq!(rt; script.lines(), lines.as_slice());
+    for (text, lines) in [
+        ("dunnart 1\nend\n", 0),
+        ("dunnart 1\n1 layout\nend\n", 1),
+        ("dunnart 1\n1 box b_2 -999999999 0 999999999 1\nend\n", 1),
+        (
+            "dunnart 1\n1 box a23456789012345678901234 1 1 1 1\nend\n",
+            1,
+        ),
+    ] {
+        assert_eq!(rt; count(rt.alloc(), text.as_bytes()), Ok(lines), "{text}");
+    }
+    Ok(())
+}
+
+#[test]
+fn near_misses_are_refused(rt: HostRuntime) -> Result<(), Fail> {
+    let fault = Err(ReadFault::Fault(ScriptFault {
+        line: 0,
+        kind: FaultKind::NotYet,
+    }));
+    for text in [
+        "",
+        "dunnart 1\n",
+        "dunnart 1\nend",
+        "dunnart 2\nend\n",
+        "Dunnart 1\nend\n",
+        "dunnart 1\r\nend\n",
+        "dunnart 1\n1 layout\n",
+        "dunnart 1\n1 layout",
+        "dunnart 1\n1 layout\nEnd\n",
+        "dunnart 1\n1 layout\nend\n\n",
+        "dunnart 1\n1 layout\nend\n1 layout\n",
+        "dunnart 1\n\n1 layout\nend\n",
+        "dunnart 1\n1 bax a 3 4 40 20\nend\n",
+        "dunnart 1\n1 box a 3 4 40 20 \nend\n",
+        "dunnart 1\n1 box a 3 4 40\nend\n",
+        "dunnart 1\n1 box a 3 4 40 20 7\nend\n",
+        "dunnart 1\n1 box a 3  4 40 20\nend\n",
+        "dunnart 1\n1 box a 3\t4 40 20\nend\n",
+        "dunnart 1\n1 box a -0 4 40 20\nend\n",
+        "dunnart 1\n1 box a 03 4 40 20\nend\n",
+        "dunnart 1\n1 box a +3 4 40 20\nend\n",
+        "dunnart 1\n1 box a 1234567890 4 40 20\nend\n",
+        "dunnart 1\n1 box a234567890123456789012345 3 4 40 20\nend\n",
+        "dunnart 1\n1 box 2a 3 4 40 20\nend\n",
+        "dunnart 1\n0 layout\nend\n",
+        "dunnart 1\n2 layout\nend\n",
+        "dunnart 1\n11 layout\nend\n",
+        "dunnart 1\n1 undo\nend\n",
+        "dunnart 1\n1  layout\nend\n",
+        "dunnart 1\n 1 layout\nend\n",
+    ] {
+        assert_eq!(rt; count(rt.alloc(), text.as_bytes()), fault, "{text}");
+    }
+    Ok(())
+}
+
+/// A script of so many lines `1 layout`, and a line of `1 box ` with so many letters.
+fn long_script(alloc: Global, layouts: usize, letters: usize) -> Result<Vec<u8>, Fail> {
+    let mut text = Vec::from_slice(alloc, b"dunnart 1\n")?;
+    for _ in 0..layouts {
+        text.extend_from_slice(b"1 layout\n")?;
+    }
+    if letters > 0 {
+        text.extend_from_slice(b"1 box ")?;
+        for _ in 0..letters {
+            text.push(b'a')?;
+        }
+        text.push(b'\n')?;
+    }
+    text.extend_from_slice(b"end\n")?;
+    Ok(text)
+}
+
+#[test]
+fn long_scripts_are_refused(rt: HostRuntime) -> Result<(), Fail> {
+    let fault = Err(ReadFault::Fault(ScriptFault {
+        line: 0,
+        kind: FaultKind::NotYet,
+    }));
+    for (layouts, letters, read) in [
+        (1999, 0, Ok(1999)),
+        (2000, 0, Ok(2000)),
+        (2001, 0, fault),
+        (0, 2043, fault),
+    ] {
+        let text = long_script(rt.alloc(), layouts, letters)?;
+        assert_eq!(rt; count(rt.alloc(), &text), read, "{layouts} {letters}");
+    }
+    Ok(())
+}
+
+#[test]
+fn commands_have_texts(rt: HostRuntime) -> Result<(), Fail> {
+    let edit = first_box().ok_or("a box")?;
+    assert_eq!(rt;
+        edit_text(rt.alloc(), &edit)?.as_slice(),
+        b"box a 3 4 40 20".as_slice()
+    );
+    let command = Command::Edit(Edit::Put {
+        name: Name::of(b"b_2").ok_or("a name")?,
+        form: Form::Box,
+        x: -1_000_000,
+        y: 0,
+        w: 10_000,
+        h: 1,
+    });
+    let text = command_text(rt.alloc(), &command)?;
+    assert_eq!(rt; text.as_slice(), b"box b_2 -1000000 0 10000 1".as_slice());
+    let text = command_text(rt.alloc(), &Command::Layout)?;
+    assert_eq!(rt; text.as_slice(), b"layout".as_slice());
+    Ok(())
+}
