@@ -1,0 +1,5 @@
+pub mod Later
+pub mod Lines
+pub mod Replying
+pub mod Settling
+pub mod Together

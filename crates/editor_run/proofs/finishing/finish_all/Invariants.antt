@@ -1,0 +1,10 @@
+use Rattle.std.proofs.Common.{ℕ, ◌-◌, length}
+use Rattle.doc_book.specs.History.{after_end}
+use Rattle.editor_run.proofs.Settling.{FinishesFrom}
+use Rattle.editor_run.proofs.finishing.finish_all.Given as goal
+
+abbrev pub invariant-loop : goal.invariant-loop
+invariant-loop l = FinishesFrom l.initial.book l.book
+
+abbrev pub decreases-loop : goal.decreases-loop
+decreases-loop l = 64 - length (after_end l.book.history)

@@ -1,0 +1,40 @@
+-- A script that was played to the end of its document.
+use Rattle.std.specs.Prelude.{◌≡◌, ℕ, ◌+◌, ◌≤◌, List, [], ◌∷◌, length, take, drop, Some, ⊤}
+use Rattle.std.specs.List.{AllByRecursion}
+use Rattle.script_text.specs.declared.scripts.Line.{Line}
+use Rattle.doc_book.specs.declared.entries.Entry.{Entry}
+use Rattle.doc_book.specs.declared.replies.Reply.{Reply}
+use Rattle.doc_book.specs.Document.{Document}
+use Rattle.doc_book.specs.Finished.{IsFinished}
+use Rattle.doc_book.specs.History.{end_place}
+use Rattle.doc_book.specs.Legal.{IsLegal}
+use Rattle.doc_book.specs.Listing.{session_lines}
+use Rattle.doc_book.specs.Replies.{AreRightReplies, OwnEntriesAre, after_of}
+
+-- a fact of each session and its replies, for further sessions from one on
+abbrev pub ForSessions : ℕ → (ℕ → List Reply → Type 0) → List (List Reply) → Type 0
+ForSessions session P [] = ⊤
+ForSessions session P (rs ∷ more) = P session rs × ForSessions (session + 1) P more
+
+-- the history is legal by the budget, and is finished
+pub record IsRightHistory (budget : ℕ) (document : Document) : Type 0 where
+  pub budget_is : document.budget ≡ budget
+  pub legal : IsLegal document.history budget
+  pub finished : IsFinished document.history
+
+-- each session's entries are those that its replies name, in order, each once
+abbrev pub AreOwnEntries : Document → List (List Reply) → Type 0
+AreOwnEntries document replies = ForSessions 1 (OwnEntriesAre document.history) replies
+
+-- there is one reply for each line of each session, right and in order
+abbrev pub HaveRightReplies : Document → List Line → List (List Reply) → Type 0
+HaveRightReplies document script replies =
+    ForSessions 1 (λ session rs. AreRightReplies document.history document.budget session 0 (session_lines session script) rs) replies
+
+-- before End sessions alone made entries, End and what follows it are by caller 0, and no reply was given after End
+pub record AreCallers (history : List Entry) (replies : List (List Reply)) : Type 0 where
+  pub place : ℕ
+  pub ended : end_place history ≡ Some place
+  pub sessions : AllByRecursion (λ (e : Entry). (1 ≤ e.who) × (e.who ≤ 8)) (take place history)
+  pub run : AllByRecursion (λ (e : Entry). e.who ≡ 0) (drop place history)
+  pub before_end : AllByRecursion (AllByRecursion (λ (r : Reply). after_of r ≤ place)) replies

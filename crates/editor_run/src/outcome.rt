@@ -1,0 +1,73 @@
+//! What a run comes to.
+ghost use Rattle.std.specs.Prelude.{◌≡◌};
+
+use byte_edge::ReadStop;
+use doc_book::{Book, Reply};
+use script_text::{ReadFault, Script, ScriptFault};
+use thiserror::Error;
+use units::Sequence;
+
+/// Why a run failed.
+#[derive(Clone, Copy, Debug, PartialEq, Eq, Error)]
+pub enum Fault {
+    /// The words after the program's name aren't ones that it takes.
+    #[error("words refused")]
+    Words,
+    /// A read of the source failed.
+    #[error("source failed")]
+    Source,
+    /// The bytes of the source spell no script.
+    #[error("line {}: {:?}", .0.line, .0.kind)]
+    Script(ScriptFault),
+    /// Want of memory.
+    #[error("no memory")]
+    Memory,
+    /// A write of the sink failed.
+    #[error("sink failed")]
+    Sink,
+    /// The source gave more than 1,048,576 bytes.
+    #[error("input too long")]
+    Long,
+}
+
+impl From<ReadStop> for Fault {
+    ghost use Rattle.editor_run.specs.Outcomes.{fault_of_stop};
+
+    ghost from_gives = { λ stop fault. fault ≡ fault_of_stop stop };
+
+    fn from(stop: ReadStop) -> Self {
+        match stop {
+            ReadStop::Failed => Fault::Source,
+            ReadStop::TooLong => Fault::Long,
+            ReadStop::Memory => Fault::Memory,
+        }
+    }
+}
+
+impl From<ReadFault> for Fault {
+    ghost use Rattle.editor_run.specs.Outcomes.{fault_of_read};
+
+    ghost from_gives = { λ cause fault. fault ≡ fault_of_read cause };
+
+    fn from(cause: ReadFault) -> Self {
+        match cause {
+            ReadFault::Fault(fault) => Fault::Script(fault),
+            ReadFault::Memory => Fault::Memory,
+        }
+    }
+}
+
+/// What a run comes to.
+#[derive(Drop)]
+pub struct Outcome {
+    /// The exit status: 0 on success, else that of the fault.
+    pub status: u8,
+    /// None on status 0.
+    pub fault: Option<Fault>,
+    /// The finished document, on status 0 and where the sink failed.
+    pub book: Option<Book>,
+    /// The script, on status 0 and where the sink failed.
+    pub script: Option<Script>,
+    /// The replies by session: eight lists, session 1 first, on status 0 and where the sink failed.
+    pub replies: Sequence<Sequence<Reply>>,
+}

@@ -1,0 +1,99 @@
+//! What no clause says: worked scripts from bytes to bytes, statuses with their texts, and one failing call of each end.
+use crate::{Outcome, run};
+use byte_edge::{MemSink, MemSource, StdSink, StdSource, SureSink, SureSource};
+use std::alloc::Global;
+use std::io;
+use std::test::Fail;
+
+const FIRST_BOX: &[u8] = b"dunnart 1\n1 box a 3 4 40 20\n1 layout\n1 layout\nend\n";
+
+const FIRST_BOX_LISTING: &[u8] =
+    b"listing 1\n0 1 2 box a 3 4 40 20\n1 1 3 frame\nx a 3 3\ny a 4 4\n2 0 0 end\n3 0 0 frame\nx a 3 3\ny a 4 4\nreplies\n1 2 box a 3 4 40 20 = accepted 0\n1 3 layout = published 1\n1 4 layout = idle 2\ndone\n";
+
+const EMPTY_LISTING: &[u8] = b"listing 1\n0 0 0 end\n1 0 0 frame\nreplies\ndone\n";
+
+/// The status and the text of the fault of a run that must fail.
+fn said(alloc: Global, outcome: &Outcome) -> Result<String, Fail> {
+    let fault = outcome.fault.ok_or("a fault")?;
+    Ok(format!(in alloc; "{} {fault}", outcome.status)?)
+}
+
+#[test]
+fn worked_scripts(rt: HostRuntime) -> Result<(), Fail> {
+    let alloc = rt.alloc();
+    for (script, listing) in [
+        (FIRST_BOX, FIRST_BOX_LISTING),
+        (b"dunnart 1\nend\n".as_slice(), EMPTY_LISTING),
+    ] {
+        let mut source = SureSource::new(script.to_vec(alloc)?);
+        let mut sink = SureSink::new(alloc);
+        let outcome = run(&rt, Vec::new(alloc), &mut source, &mut sink);
+        assert_eq!(rt; outcome.status, 0);
+        assert_eq!(rt; sink.bytes(), listing);
+    }
+    Ok(())
+}
+
+#[test]
+fn faulty_scripts(rt: HostRuntime) -> Result<(), Fail> {
+    let alloc = rt.alloc();
+    let scripts = [
+        b"dunnart 1\n1 box a 0".as_slice(),
+        b"dunnart 1\n1 box a 3 4 40 20\n1 layout\n1 layout\n".as_slice(),
+        b"dunnart 1\n\xff\nend\n".as_slice(),
+        b"dunnart 1\n1 undo\nend\n".as_slice(),
+    ];
+    for script in scripts {
+        let mut source = SureSource::new(script.to_vec(alloc)?);
+        let mut sink = SureSink::new(alloc);
+        let outcome = run(&rt, Vec::new(alloc), &mut source, &mut sink);
+        assert_eq!(rt; said(alloc, &outcome)?.as_str(), "3 line 0: NotYet");
+        assert_eq!(rt; sink.bytes(), [].as_slice());
+    }
+    Ok(())
+}
+
+#[test]
+fn failing_ends(rt: HostRuntime) -> Result<(), Fail> {
+    let alloc = rt.alloc();
+    let mut source = MemSource::new(FIRST_BOX.to_vec(alloc)?, vec![in alloc; 1]?);
+    let mut sink = SureSink::new(alloc);
+    let outcome = run(&rt, Vec::new(alloc), &mut source, &mut sink);
+    assert_eq!(rt; said(alloc, &outcome)?.as_str(), "4 source failed");
+    assert_eq!(rt; sink.bytes(), [].as_slice());
+
+    let mut source = SureSource::new(FIRST_BOX.to_vec(alloc)?);
+    let mut sink = MemSink::new(vec![in alloc; 1]?);
+    let outcome = run(&rt, Vec::new(alloc), &mut source, &mut sink);
+    assert_eq!(rt; said(alloc, &outcome)?.as_str(), "6 sink failed");
+    assert_eq!(rt; sink.bytes(), [].as_slice());
+    Ok(())
+}
+
+#[test]
+fn refused_words_and_long_input(rt: HostRuntime) -> Result<(), Fail> {
+    let alloc = rt.alloc();
+    let words = vec![in alloc;
+        String::from_str(alloc, "dunnart")?,
+        String::from_str(alloc, "--workers")?,
+    ]?;
+    let mut source = SureSource::new(FIRST_BOX.to_vec(alloc)?);
+    let mut sink = SureSink::new(alloc);
+    let outcome = run(&rt, words, &mut source, &mut sink);
+    assert_eq!(rt; said(alloc, &outcome)?.as_str(), "2 words refused");
+
+    let mut source = SureSource::new(vec![in alloc; b'a'; 1_048_577]?);
+    let outcome = run(&rt, Vec::new(alloc), &mut source, &mut sink);
+    assert_eq!(rt; said(alloc, &outcome)?.as_str(), "7 input too long");
+    Ok(())
+}
+
+#[test]
+fn real_ends(rt: HostRuntime) -> Result<(), Fail> {
+    let mut source = StdSource::new(rt.reader());
+    let mut sink = StdSink::new(io::writer(&rt));
+    let outcome = run(&rt, Vec::new(rt.alloc()), &mut source, &mut sink);
+    // Without an input that can be read the status is 4.
+    assert!(rt; outcome.status == 3 || outcome.status == 4);
+    Ok(())
+}

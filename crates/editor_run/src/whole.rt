@@ -1,0 +1,60 @@
+//! Playing a script to the end of its document.
+ghost use Rattle.std.specs.Prelude.{◌≡◌, ◌≤◌, None, [], ◌∷◌, ◌++◌, replicate, IfOk, OnOk};
+ghost use Rattle.doc_book.specs.declared.entries.Act.TheVariants as act;
+ghost use Rattle.doc_book.specs.Growing.{entry_of};
+ghost use Rattle.doc_book.specs.History.{end_place};
+ghost use Rattle.editor_run.specs.Played.{IsRightHistory, AreOwnEntries, HaveRightReplies, AreCallers};
+
+use crate::finishing::finish_all;
+use crate::playing::play_lines;
+use doc_book::{Book, Reply};
+use script_text::Script;
+use std::alloc::Global;
+use units::{Memory, Sequence};
+
+/// A document that was played to its end, with the replies by session.
+#[derive(Drop)]
+pub struct Played {
+    pub book: Book,
+    pub replies: Sequence<Sequence<Reply>>,
+}
+
+/// Plays the lines of a script in order, ends the document and finishes it.
+pub fn play_whole(alloc: Global, frames: u32, script: &Script) -> Result<Played, Memory>
+    requires { frames ≤ 512 }
+    ensures history { IfOk result (λ p. IsRightHistory frames p.book) }
+    ensures own_entries { IfOk result (λ p. AreOwnEntries p.book p.replies) }
+    ensures replies { IfOk result (λ p. HaveRightReplies p.book script.now p.replies) }
+    ensures callers { IfOk result (λ p. AreCallers p.book.history p.replies) }
+{
+    let mut book = Book::new(alloc, frames);
+    let replies = play_lines(alloc, &mut book, script.lines())?;
+    end(&mut book)?;
+    finish_all(alloc, &mut book)?;
+    let _legal = book.history();
+    let replies = by_session(alloc, replies)?;
+    Ok(Played { book, replies })
+}
+
+/// Ends the document, which wasn't ended.
+fn end(book: &mut Book) -> Result<(), Memory>
+    requires { end_place book.old.history ≡ None }
+    ensures { OnOk result (book.new ≡ record book.old { history = book.old.history ++ entry_of 0 0 act.End ∷ [] }) }
+{
+    match book.end() {
+        Ok(_) => Ok(()),
+        Err(_) => Err(Memory),
+    }
+}
+
+/// The replies of session 1, and those of seven sessions without lines.
+fn by_session(alloc: Global, replies: Sequence<Reply>) -> Result<Sequence<Sequence<Reply>>, Memory>
+    ensures { IfOk result (λ lists. lists ≡ replies ∷ replicate 7 []) }
+{
+    let mut lists = Sequence::new(alloc);
+    lists.push(replies)?;
+    for _ in 0..7u8 {
+        lists.push(Sequence::new(alloc))?;
+    }
+    Ok(lists)
+}
