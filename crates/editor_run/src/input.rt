@@ -2,7 +2,7 @@
 ghost use Rattle.std.specs.Prelude.{◌≡◌, ◌<◌, ◌≤◌, ◌⊎◌, List, Err, length, IfOk, IsOk, OnOk, IfSome};
 ghost use Rattle.std.specs.Io.KnownBytes.{IsAtEnd};
 ghost use Rattle.byte_edge.specs.Count.{HasRisen};
-ghost use Rattle.byte_edge.specs.Given.{GivesPast};
+ghost use Rattle.byte_edge.specs.Given.{GivesPast, GivesWithin};
 ghost use Rattle.script_text.specs.declared.faults.ScriptFault.{ScriptFault as FaultValue};
 ghost use Rattle.script_text.specs.declared.scripts.Line.{Line};
 ghost use Rattle.script_text.specs.Scripts.{Spells};
@@ -24,6 +24,7 @@ pub fn input<S: Source>(alloc: Global, source: &mut S) -> Result<Script, Fault>
     ensures none_spelled { (f : FaultValue) → result ≡ Err (fault.Script f) → SpellsNone (S.left source.old) × IsAtEnd (S.left source.new) }
     ensures source_failed { result ≡ Err fault.Source → HasRisen (S.faults source.old) (S.faults source.new) }
     ensures too_long { result ≡ Err fault.Long → GivesPast 1048576 (S.left source.old) (S.left source.new) (S.given source.old) (S.given source.new) }
+    ensures within { (result ≡ Err fault.Long) ⊎ GivesWithin 1048576 (S.left source.old) (S.left source.new) (S.given source.old) (S.given source.new) }
     ensures complete { ¬ HasRisen (S.faults source.old) (S.faults source.new)
         → IfSome (S.left source.old) (λ bytes. length bytes ≤ 1048576 → (script : List Line) → Spells bytes script → (IsOk result) ⊎ (result ≡ Err fault.Memory)) }
     ensures neither { (result ≡ Err fault.Words) ⊎ (result ≡ Err fault.Sink) → ⊥ }

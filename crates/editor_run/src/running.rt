@@ -2,7 +2,7 @@
 ghost use Rattle.std.specs.Prelude.{◌≡◌, ◌↔◌, ◌⊎◌, ◌<◌, ◌≤◌, None, Some, false, List, length, vec_len, IfSome};
 ghost use Rattle.std.specs.Io.KnownBytes.{IsAtEnd, append_known};
 ghost use Rattle.byte_edge.specs.Count.{HasRisen};
-ghost use Rattle.byte_edge.specs.Given.{GivesPast};
+ghost use Rattle.byte_edge.specs.Given.{GivesPast, GivesWithin};
 ghost use Rattle.byte_edge.specs.Taken.{TakesPart};
 ghost use Rattle.script_text.specs.declared.faults.ScriptFault.{ScriptFault as FaultValue};
 ghost use Rattle.script_text.specs.declared.scripts.Line.{Line as LineValue};
@@ -109,6 +109,7 @@ pub fn run_alone<R: AllocGlobal, S: Source, K: Sink>(
     ensures no_script { (f : FaultValue) → result.fault ≡ Some (fault.Script f) → SpellsNone (S.left source.old) × IsAtEnd (S.left source.new) }
     ensures source_failed { result.fault ≡ Some fault.Source → HasRisen (S.faults source.old) (S.faults source.new) }
     ensures too_long { result.fault ≡ Some fault.Long → GivesPast 1048576 (S.left source.old) (S.left source.new) (S.given source.old) (S.given source.new) }
+    ensures within { (result.fault ≡ Some fault.Long) ⊎ GivesWithin 1048576 (S.left source.old) (S.left source.new) (S.given source.old) (S.given source.new) }
     ensures sink_failed { result.fault ≡ Some fault.Sink → HasRisen (K.faults sink.old) (K.faults sink.new) }
     ensures part { result.fault ≡ Some fault.Sink → WhereRun result (λ script document replies. TakesPart (K.put sink.old) (K.put sink.new) (listing_text script document.history replies)) }
     ensures nothing_written { WritesNothing result → sink.new ≡ sink.old }
@@ -163,6 +164,8 @@ pub fn run<R: AllocGlobal, S: Source, K: Sink>(
     ensures no_script { (f : FaultValue) → result.fault ≡ Some (fault.Script f) → SpellsNone (S.left source.old) × IsAtEnd (S.left source.new) }
     ensures source_failed { result.fault ≡ Some fault.Source → HasRisen (S.faults source.old) (S.faults source.new) }
     ensures too_long { result.fault ≡ Some fault.Long → GivesPast 1048576 (S.left source.old) (S.left source.new) (S.given source.old) (S.given source.new) }
+    ensures within { (result.fault ≡ Some fault.Words) ⊎ (result.fault ≡ Some fault.Long)
+        ⊎ GivesWithin 1048576 (S.left source.old) (S.left source.new) (S.given source.old) (S.given source.new) }
     ensures sink_failed { result.fault ≡ Some fault.Sink → HasRisen (K.faults sink.old) (K.faults sink.new) }
     ensures part { result.fault ≡ Some fault.Sink → WhereRun result (λ script document replies. TakesPart (K.put sink.old) (K.put sink.new) (listing_text script document.history replies)) }
     ensures nothing_written { WritesNothing result → sink.new ≡ sink.old }
