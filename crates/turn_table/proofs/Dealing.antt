@@ -1,5 +1,5 @@
 -- The seats are dealt at the opening, and gathered at the end.
-use Rattle.std.proofs.Common.{◌≡◌, ℕ, zero, suc, ◌+◌, ◌-◌, ◌<◌, List, [], ◌∷◌, ◌++◌, length, slice_get, false, refl, sym, ap, ◌∙◌, subst, arith, length-append, Option, Some}
+use Rattle.std.proofs.Common.{◌≡◌, ℕ, zero, suc, ◌+◌, ◌-◌, ◌<◌, List, [], ◌∷◌, ◌++◌, length, slice_index_or, All, false, refl, sym, ap, ◌∙◌, subst, arith, length-append, Option, Some}
 use mathlib.Core.Option.{some}
 use mathlib.Core.List.{IsPrefix}
 use lib.ListN.{get_elem?}
@@ -16,7 +16,7 @@ use Rattle.turn_table.specs.States.{Opened, Seated, fresh_seat, IsIdleAt}
 use Rattle.turn_table.specs.Steps.{IsLive, stage_in, origin_in, seen, before, both, keeps_rest, first_number}
 use Rattle.turn_table.specs.Views.{seated, fresh_view, Sits, IsIdle, Dealt, AllIdle, SeenBegin}
 use Rattle.turn_table.proofs.Counts.{times_append, numbers_length, total_more}
-use Rattle.turn_table.proofs.Sitting.{idle_of}
+use Rattle.turn_table.proofs.Sitting.{idle_of, at_table}
 use Rattle.turn_table.proofs.Ends as ends
 
 pub numbers_step : (n m : ℕ) → 0 < m → numbers_from n m ≡ n ∷ numbers_from (n + 1) (m - 1)
@@ -33,36 +33,36 @@ module _ {E T : Type 0} (origin : Origin E T) where
 
 module _ {V E T : Type 0} where
   -- what a seat with one number is, after the splits
-  pub fresh_sits : (table : Opened E T) (id : TableId) (me : Me (Option V) (Known E T)) (n : ℕ) → id ≡ table.id → me ≡ (fresh_view (origin_of table) (n ∷ []), []) → Sits table id me × (seated table me.0 ≡ fresh_seat table n)
-  fresh_sits table id me n here e = subst (λ (m : Me (Option V) (Known E T)). Sits table id m × (seated table m.0 ≡ fresh_seat table n)) (sym e) (record { here = here; live = tt; origin_is = refl; one_number = refl; rests = refl }, refl)
+  pub fresh_sits : (table : Opened E T) (id : TableId) (me : Me (Option V) (Known E T)) (n : ℕ) → id ≡ table.id → me ≡ (fresh_view (origin_of table) (n ∷ []), []) → Sits me × (seated id me.0 ≡ fresh_seat table n)
+  fresh_sits table id me n here e = subst (λ (m : Me (Option V) (Known E T)). Sits m × (seated id m.0 ≡ fresh_seat table n)) (sym e) (record { live = tt; one_number = refl; rests = refl }, ap (λ (z : TableId). fresh_seat (record table { id = z }) n) here)
 
 module _ {E T : Type 0} (table : Opened E T) where
   pub dealt_more : (k : ℕ) (ss : List (Seated E T)) (s : Seated E T) → Dealt table k ss → s ≡ fresh_seat table (k + length ss) → Dealt table k (ss ++ s ∷ [])
   dealt_more k [] s h e = (e ∙ ap (fresh_seat table) (omega arith), tt)
   dealt_more k (x ∷ xs) s h e = (h.0, dealt_more (k + 1) xs s h.1 (e ∙ ap (fresh_seat table) (omega arith)))
 
-  pub dealt_at : (k : ℕ) (ss : List (Seated E T)) (i : ℕ) (s : Seated E T) → Dealt table k ss → slice_get ss i ≡ Some s → s ≡ fresh_seat table (k + i)
-  dealt_at k [] i s h e = absurd cc
-  dealt_at k (x ∷ xs) zero s h e = let is : x ≡ s = cc e in sym is ∙ h.0 ∙ ap (fresh_seat table) (omega arith)
-  dealt_at k (x ∷ xs) (suc i) s h e = dealt_at (k + 1) xs i s h.1 e ∙ ap (fresh_seat table) (omega arith)
+  pub dealt_at : (k : ℕ) (ss : List (Seated E T)) → Dealt table k ss → (i : ℕ) (d : Seated E T) → i < length ss → slice_index_or ss i d ≡ fresh_seat table (k + i)
+  dealt_at k [] h i d l = absurd (omega arith)
+  dealt_at k (x ∷ xs) h zero d l = h.0 ∙ ap (fresh_seat table) (omega arith)
+  dealt_at k (x ∷ xs) h (suc i) d l = dealt_at (k + 1) xs h.1 i d (omega arith) ∙ ap (fresh_seat table) (omega arith)
 
   pub idle_split : (ss : List (Seated E T)) (s : Seated E T) → AllIdle table (ss ++ s ∷ []) → AllIdle table ss × IsIdleAt table s
   idle_split [] s h = (tt, h.0)
   idle_split (x ∷ xs) s h = let r = idle_split xs s h.1 in ((h.0, r.0), r.1)
 
-  pub all_idle : (ss : List (Seated E T)) → ((i : ℕ) (s : Seated E T) → slice_get ss i ≡ Some s → IsIdleAt table s) → AllIdle table ss
+  pub all_idle : (ss : List (Seated E T)) → All (λ s. IsIdleAt table s) ss → AllIdle table ss
   all_idle [] h = tt
-  all_idle (x ∷ xs) h = (h 0 x refl, all_idle xs (λ i s e. h (suc i) s e))
+  all_idle (x ∷ xs) h = (h 0 x (omega arith), all_idle xs (λ i d l. h (suc i) d (omega arith)))
 
 module _ {E T : Type 0} where
   pub seen_more : (g : List E) (ss : List (Seated E T)) (s : Seated E T) → SeenBegin g ss → IsPrefix s.seen g → SeenBegin g (ss ++ s ∷ [])
   seen_more g [] s h p = (p, tt)
   seen_more g (x ∷ xs) s h p = (h.0, seen_more g xs s h.1 p)
 
-  pub seen_at : (g : List E) (ss : List (Seated E T)) (i : ℕ) (s : Seated E T) → SeenBegin g ss → slice_get ss i ≡ Some s → IsPrefix s.seen g
-  seen_at g [] i s h e = absurd cc
-  seen_at g (x ∷ xs) zero s h e = let is : x ≡ s = cc e in subst (λ (z : Seated E T). IsPrefix z.seen g) is h.0
-  seen_at g (x ∷ xs) (suc i) s h e = seen_at g xs i s h.1 e
+  pub all_seen : (g : List E) (ss : List (Seated E T)) → SeenBegin g ss → All (λ s. IsPrefix s.seen g) ss
+  all_seen g [] h i d l = absurd (omega arith)
+  all_seen g (x ∷ xs) h zero d l = h.0
+  all_seen g (x ∷ xs) h (suc i) d l = all_seen g xs h.1 i d (omega arith)
 
 module _ {E : Type 0} where
   all_cut : (g : List E) (xss yss : List (List E)) → AllBegin g (xss ++ yss) → AllBegin g xss × AllBegin g yss
@@ -108,17 +108,17 @@ module _ {V E T : Type 0} (table : Opened E T) where
     pub owns : own p.me.0 ≡ s.own
     pub sees : seen p.me.0 ≡ s.seen
 
-  pub placed : (s : Seated E T) (p : Seat (Option V) (Known E T)) → IsIdleAt table s → Sits s.table p.table_id p.me → s ≡ seated s.table p.me.0 → Placed s p
-  placed s p i sits same = record {
-    here = sits.here ∙ ap (λ (t : Opened E T). t.id) i.0;
-    idle = idle_of s.table p.table_id p.me sits (sym (ap (λ (z : Seated E T). z.in_turn) same) ∙ i.1);
-    same = sits.origin_is ∙ ap (λ (t : Opened E T). Some (origin_of t)) i.0;
+  pub placed : (s : Seated E T) (p : Seat (Option V) (Known E T)) → IsIdleAt table s → Sits p.me → s ≡ seated p.table_id p.me.0 → Placed s p
+  placed s p i sits same = let at = at_table p.table_id p.me.0 table (sym (ap (λ (z : Seated E T). z.table) same) ∙ i.0) in record {
+    here = at.0;
+    idle = idle_of p.me sits (sym (ap (λ (z : Seated E T). z.in_turn) same) ∙ i.1);
+    same = at.1;
     one = sits.one_number;
     owns = sym (ap (λ (z : Seated E T). z.own) same);
     sees = sym (ap (λ (z : Seated E T). z.seen) same);
   }
 
-  pub gathers_first : (all rest : List (Seated E T)) (s : Seated E T) (p : Seat (Option V) (Known E T)) → all ≡ rest ++ s ∷ [] → AllIdle table all → Sits s.table p.table_id p.me → s ≡ seated s.table p.me.0 → Gathers p rest all
+  pub gathers_first : (all rest : List (Seated E T)) (s : Seated E T) (p : Seat (Option V) (Known E T)) → all ≡ rest ++ s ∷ [] → AllIdle table all → Sits p.me → s ≡ seated p.table_id p.me.0 → Gathers p rest all
   gathers_first all rest s p e h sits same = let cut = idle_split table rest s (subst (λ z. AllIdle table z) e h) in let mine = placed s p cut.1 sits same in let long = ap length e in let two = length-append rest (s ∷ []) in (
     mine.here,
     mine.idle,
@@ -129,7 +129,7 @@ module _ {V E T : Type 0} (table : Opened E T) where
     λ g a b r. subst (λ z. SeenBegin g z) (sym e) (seen_more g rest s r (subst (λ z. IsPrefix z g) mine.sees a)),
   )
 
-  pub gathers_next : (p h q : Seat (Option V) (Known E T)) (all rest rest' : List (Seated E T)) (s : Seated E T) → Gathers p rest all → rest ≡ rest' ++ s ∷ [] → Sits s.table h.table_id h.me → s ≡ seated s.table h.me.0
+  pub gathers_next : (p h q : Seat (Option V) (Known E T)) (all rest rest' : List (Seated E T)) (s : Seated E T) → Gathers p rest all → rest ≡ rest' ++ s ∷ [] → Sits h.me → s ≡ seated h.table_id h.me.0
       → q.table_id ≡ p.table_id → q.me ≡ (both p.me.0 h.me.0, p.me.1) → Gathers q rest' all
   gathers_next p h q all rest rest' s i e sits same at d = let cut = idle_split table rest' s (subst (λ z. AllIdle table z) e i.3) in let mine = placed s h cut.1 sits same in let j = joined_is p.me.0 h.me.0 q.me.0 i.1.0 mine.idle.0 (ap (λ m. m.0) d) in
       let long = ap length e in let two = length-append rest' (s ∷ []) in (

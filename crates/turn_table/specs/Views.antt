@@ -5,13 +5,13 @@ use Rattle.atomic_table.specs.Seated.{TableId}
 use Rattle.atomic_table.specs.Table.{Me}
 use Rattle.atomic_table.specs.declared.shared.Seat.{Seat}
 use Rattle.turn_table.specs.States.{Opened, Seated, fresh_seat, IsIdleAt}
-use Rattle.turn_table.specs.Rule.{turns_at, own, numbers, origin_of}
+use Rattle.turn_table.specs.Rule.{turns_at, own, numbers}
 use Rattle.turn_table.specs.Steps.{listed, IsLive, stage_in, seen, before, origin_in}
 use Rattle.turn_table.specs.declared.view.Origin.{Origin}
 use Rattle.turn_table.specs.declared.view.Stage.{Stage}
 use Rattle.turn_table.specs.declared.view.Stage.TheVariants.{Idle, Waiting, InTurn}
 use Rattle.turn_table.specs.declared.view.Known.{Known}
-use Rattle.turn_table.specs.declared.view.Known.TheVariants.{Live}
+use Rattle.turn_table.specs.declared.view.Known.TheVariants.{Spent, Live}
 
 module _ {E : Type 0} where
   abbrev pub is_turn : Stage E → Bool
@@ -19,8 +19,13 @@ module _ {E : Type 0} where
   is_turn _ = false
 
 module _ {E T : Type 0} where
-  abbrev pub seated : Opened E T → Known E T → Seated E T
-  seated table k = record { table = table; number = slice_index (numbers k) 0; seen = seen k; own = own k; in_turn = is_turn (stage_in k) }
+  -- the table of this name, as its seats know it
+  abbrev pub table_in : TableId → Known E T → Option (Opened E T)
+  table_in id Spent = None
+  table_in id (Live v) = Some (record { id = id; entries = v.origin.entries; terms = v.origin.terms.value; seats = v.origin.seats })
+
+  abbrev pub seated : TableId → Known E T → Seated E T
+  seated id k = record { table = table_in id k; number = slice_index (numbers k) 0; seen = seen k; own = own k; in_turn = is_turn (stage_in k) }
 
   -- the first view after some splits: these numbers, and the opening list
   abbrev pub fresh_view : Origin E T → List ℕ → Known E T
@@ -34,11 +39,9 @@ module _ {V E : Type 0} where
   Rests (InTurn ticket list) seen slots = (list ≡ seen) × (slots ≡ (0, None) ∷ [])
 
 module _ {V E T : Type 0} where
-  -- what is true of a seat of this table between calls
-  pub record Sits (table : Opened E T) (id : TableId) (me : Me (Option V) (Known E T)) : Type 0 where
-    pub here : id ≡ table.id
+  -- what is true of a seat between calls
+  pub record Sits (me : Me (Option V) (Known E T)) : Type 0 where
     pub live : IsLive me.0
-    pub origin_is : origin_in me.0 ≡ Some (origin_of table)
     pub one_number : length (numbers me.0) ≡ 1
     pub rests : Rests (stage_in me.0) (seen me.0) me.1
 

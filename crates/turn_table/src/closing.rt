@@ -1,5 +1,5 @@
 //! The table is closed.
-ghost use Rattle.std.specs.Prelude.{◌≡◌, ◌<◌, length, slice_get, ℕ, List, Some};
+ghost use Rattle.std.specs.Prelude.{◌≡◌, ◌<◌, length, All, ℕ, List, Some};
 ghost use mathlib.Core.List.{IsPrefix};
 ghost use Rattle.turn_table.specs.Counting.{times, total, Once};
 ghost use Rattle.turn_table.specs.Rule.{opened, own, numbers, origin_at, AllBegin};
@@ -15,11 +15,11 @@ impl<V: Booked> TurnTable<V> {
     /// The value, once every seat is back. It has the terms of the opening, and stands for the one list that all seats took part in:
     /// it begins with the opening list and with what each seat has seen, and each entry since the opening is own of exactly one seat.
     pub fn close(self, seats: Vec<Seat<V>>) -> V
-        requires idle { (i : ℕ) (seat : _) → slice_get seats.items i ≡ Some seat → IsIdleAt self seat }
+        requires idle { All (λ seat. IsIdleAt self seat) seats.items }
         requires all { length seats.items ≡ self.seats }
         ensures terms { V.terms result ≡ self.terms }
         ensures begins { IsPrefix self.entries (V.entries result) }
-        ensures seen { (i : ℕ) (seat : _) → slice_get seats.items i ≡ Some seat → IsPrefix seat.seen (V.entries result) }
+        ensures seen { All (λ seat. IsPrefix seat.seen (V.entries result)) seats.items }
         ensures own { OwnedOnce self (V.entries result) seats.items }
     {
         let TurnTable { table } = self;
