@@ -1,11 +1,12 @@
 -- Whose entries stand at some places, as the list grows.
-use Rattle.std.proofs.Common.{◌≡◌, ℕ, zero, suc, ◌+◌, ◌<◌, Bool, true, false, ◌&&◌, ◌==◌, List, [], ◌∷◌, ◌++◌, length, slice_index, refl, sym, ap, ◌∙◌, subst, arith, eq-eqb, ne_eqb, eqb-true, if◌then◌else◌, inl, inr, ◌⊎◌, length-append}
+use Rattle.std.proofs.Common.{◌≡◌, ℕ, zero, suc, ◌+◌, ◌<◌, Bool, true, false, ◌&&◌, ◌==◌, List, [], ◌∷◌, ◌++◌, length, slice_index, refl, sym, ap, ◌∙◌, subst, arith, eq-eqb, ne_eqb, eqb-true, if◌then◌else◌, inl, inr, ◌⊎◌, length-append, All}
 use mathlib.Core.Logic.{dite}
 use native.Mathlib.Decide.{ℕ_discrete, dec_le}
 use Rattle.turn_table.specs.Counting.{times}
 use Rattle.std.proofs.lemmas.Bool.{lt-ltb, ltb-true}
 use mathlib.Core.List.{IsPrefix}
 use Rattle.turn_table.specs.Marks.{all_marked}
+use Rattle.turn_table.specs.States.{Seated}
 
 parts : (a b : Bool) → (a && b) ≡ true → (a ≡ true) × (b ≡ true)
 parts true true e = (refl, refl)
@@ -51,3 +52,8 @@ stands who p xs ys (q ∷ qs) e l pre = let t = parts _ _ e in let u = parts _ _
 -- a place that counts once among two is one of theirs
 pub of_two : (a b p : ℕ) (xs ys zs ps qs : List ℕ) → all_marked a xs ps ≡ true → all_marked b ys qs ≡ true → IsPrefix xs zs → IsPrefix ys zs → times p ps + (times p qs + 0) ≡ 1 → (slice_index zs p ≡ a) ⊎ (slice_index zs p ≡ b)
 of_two a b p xs ys zs ps qs e d pre pre' one = dite (dec_le 1 (times p ps)) (λ l. inl (stands a p xs zs ps e (omega arith) pre)) (λ n. inr (stands b p ys zs qs d (omega arith) pre'))
+
+module _ {E T : Type 0} where
+  -- what holds of two seats, where it holds of all of a list of the two
+  pub of_both : (P : Seated E T → Type 0) (a b : Seated E T) (xs : List (Seated E T)) → xs ≡ a ∷ b ∷ [] → All P xs → P a × P b
+  of_both P a b xs e h = let two : All P (a ∷ b ∷ []) = subst (All P) e h in (two 0 a (omega arith), two 1 a (omega arith))
