@@ -1,5 +1,5 @@
 -- The table is opened, its seats are cut and joined, and it is closed.
-use Rattle.std.proofs.Common.{◌≡◌, ◌≢◌, ℕ, zero, suc, ◌+◌, ◌<◌, ◌≤◌, List, [], ◌∷◌, ◌++◌, length, set, refl, sym, ap, ◌∙◌, subst, ⊎_elim, arith, Option, Some, None, length-append}
+use Rattle.std.proofs.Common.{◌≡◌, ◌≢◌, ℕ, zero, suc, ◌<◌, ◌≤◌, List, [], ◌∷◌, ◌++◌, length, set, refl, sym, ap, ◌∙◌, subst, ⊎_elim, arith, Option, Some, None, length-append}
 use mathlib.Core.Option.{none, some, some-injective, some-ne-none}
 use mathlib.Core.Option as maybe
 use mathlib.Core.List.{IsPrefix}
@@ -160,7 +160,3 @@ module _ {V E T : Type 0} (entries : V → List E) (terms : V → T) where
       first_fits : (j : ℕ) (u : Known E T) → get_elem? (first_view entries terms key ∷ []) j ≡ some u → Fits (origin_at entries terms key) 0 (entries key.value.value) u
       first_fits zero u e = subst (Fits (origin_at entries terms key) 0 (entries key.value.value)) (some-injective (first_view entries terms key) u e) (record { origin_is = refl; stage_fits = tt; seen_begins = prefix_self _; before_begin = tt; own_seen = λ p l. refl; numbered = let n = numbers_length 0 key.seats in omega arith })
       first_fits (suc j) u e = absurd (some-ne-none u (sym e))
-
-module _ {A : Type 0} where
-  pub length_two : (xs ys : List A) → length (xs ++ ys) ≡ length xs + length ys
-  length_two xs ys = length-append xs ys

@@ -1,5 +1,5 @@
 -- For the tests: the entries at some places are one mark.
-use Rattle.std.specs.Prelude.{◌≡◌, ℕ, Bool, true, List, [], ◌∷◌, length, slice_index, nat_lt, ◌==◌, ◌&&◌, slice_get, Some}
+use Rattle.std.specs.Prelude.{ℕ, Bool, true, List, [], ◌∷◌, length, slice_index, nat_lt, ◌==◌, ◌&&◌}
 
 abbrev pub all_marked : ℕ → List ℕ → List ℕ → Bool
 all_marked mark list [] = true
