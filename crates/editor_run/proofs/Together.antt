@@ -142,10 +142,13 @@ pub finished_replies : (d0 d1 d2 : Document) (lines : List Line) (rs : List Repl
     → d1 ≡ ended_now d0 → GrowsByFinishing d1 d2 → all ≡ rs ∷ replicate 7 [] → HaveRightReplies d2 lines all
 finished_replies d0 d1 d2 lines rs all p ones ended g lists =
     let budget : d2.budget ≡ d0.budget = g.budget ∙ ap (λ (d : Document). d.budget) ended in
-    subst (λ ls. ForSessions 1 (λ session replies. AreRightReplies d2.history d2.budget session 0 (session_lines session lines) replies) ls) (sym lists)
-    (subst (λ b. ForSessions 1 (λ session replies. AreRightReplies d2.history b session 0 (session_lines session lines) replies) (rs ∷ replicate 7 [])) (sym budget)
-    (subst (λ h. ForSessions 1 (λ session replies. AreRightReplies h d0.budget session 0 (session_lines session lines) replies) (rs ∷ replicate 7 [])) (sym (whole_history d0 d1 d2 ended g))
-    (replies_whole d0 lines rs (entry_of 0 0 act.End ∷ g.more) p ones)))
+    record {
+      eight = ap length lists;
+      right = subst (λ ls. ForSessions 1 (λ session replies. AreRightReplies d2.history d2.budget session 0 (session_lines session lines) replies) ls) (sym lists)
+          (subst (λ b. ForSessions 1 (λ session replies. AreRightReplies d2.history b session 0 (session_lines session lines) replies) (rs ∷ replicate 7 [])) (sym budget)
+          (subst (λ h. ForSessions 1 (λ session replies. AreRightReplies h d0.budget session 0 (session_lines session lines) replies) (rs ∷ replicate 7 [])) (sym (whole_history d0 d1 d2 ended g))
+          (replies_whole d0 lines rs (entry_of 0 0 act.End ∷ g.more) p ones)));
+    }
 
 pub finished_callers : (d0 d1 d2 : Document) (lines : List Line) (rs : List Reply) (all : List (List Reply)) → HasPlayed d0 lines rs → d1 ≡ ended_now d0 → GrowsByFinishing d1 d2
     → all ≡ rs ∷ replicate 7 [] → AreCallers d2.history all

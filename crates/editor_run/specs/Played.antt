@@ -26,10 +26,10 @@ pub record IsRightHistory (budget : ℕ) (document : Document) : Type 0 where
 abbrev pub AreOwnEntries : Document → List (List Reply) → Type 0
 AreOwnEntries document replies = ForSessions 1 (OwnEntriesAre document.history) replies
 
--- there is one reply for each line of each session, right and in order
-abbrev pub HaveRightReplies : Document → List Line → List (List Reply) → Type 0
-HaveRightReplies document script replies =
-    ForSessions 1 (λ session rs. AreRightReplies document.history document.budget session 0 (session_lines session script) rs) replies
+-- there are eight lists of replies, session 1 first, with one reply for each line of the session, right and in order
+pub record HaveRightReplies (document : Document) (script : List Line) (replies : List (List Reply)) : Type 0 where
+  pub eight : length replies ≡ 8
+  pub right : ForSessions 1 (λ session rs. AreRightReplies document.history document.budget session 0 (session_lines session script) rs) replies
 
 -- before End sessions alone made entries, End and what follows it are by caller 0, and no reply was given after End
 pub record AreCallers (history : List Entry) (replies : List (List Reply)) : Type 0 where
