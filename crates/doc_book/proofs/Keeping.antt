@@ -1,26 +1,29 @@
 -- What the book keeps, through one entry more.
-use Rattle.std.proofs.Common.{◌≡◌, ◌+◌, ◌<◌, ◌≤◌, ℕ, List, [], ◌∷◌, ◌++◌, Bool, true, false, cond, Option, Some, None, length, map, refl, ap, sym, ◌∙◌, subst, arith, zero, suc}
+use Rattle.std.proofs.Common.{◌≡◌, ◌+◌, ◌<◌, ◌≤◌, ℕ, List, [], ◌∷◌, ◌++◌, Bool, true, false, cond, Option, Some, None, length, map, refl, ap, sym, ◌∙◌, subst, arith, zero, suc, ℤ}
 use Rattle.std.proofs.lemmas.Bool.{false≢true}
 use Rattle.std.specs.Prelude.{◌↔◌, count_by, IsTrue, MatchOption}
 use Rattle.std.proofs.lemmas.List.{length-append, length-map}
-use Rattle.units.specs.Number.{clamped}
+use Rattle.units.specs.declared.geometry.Axis.{Axis}
 use Rattle.units.specs.declared.geometry.Axis.TheVariants.{X, Y}
 use Rattle.scene_model.specs.Diagram.{Diagram}
 use Rattle.scene_model.specs.Variables.{variables}
 use Rattle.edit_rules.specs.declared.edits.Edit.{Edit}
 use Rattle.edit_rules.specs.Effects.{edited, scene_of}
+use Rattle.frac128.specs.Fraction.{floor_of}
+use Rattle.multiplier_check.specs.declared.certificate.Certificate.{Certificate}
 use Rattle.frame_store.specs.declared.places.Places.{Places}
-use Rattle.frame_store.specs.declared.places.Desired.{Desired}
 use Rattle.frame_store.specs.declared.frames.Frame.{Frame}
-use Rattle.frame_store.specs.Frames.{drawn, IsFrameOf}
+use Rattle.frame_store.specs.Frames.{drawn}
 use Rattle.frame_store.specs.Carry.{carried, kept_place}
 use Rattle.doc_book.specs.declared.entries.Entry.{Entry}
 use Rattle.doc_book.specs.declared.entries.Act.{Act}
 use Rattle.doc_book.specs.declared.entries.Act.TheVariants as act
+use Rattle.doc_book.specs.Frames.{IsFrameOf}
 use Rattle.doc_book.specs.Growing.{entry_of}
 use Rattle.doc_book.specs.History.{standing, scene_at, places_at, is_end, is_frame, end_place, after_end, frame_count, IsSettled}
 use Rattle.doc_book.specs.Kept.{IsKept, IsOpenCount, IsEndedCount}
 use Rattle.doc_book.specs.Legal.{HasRoom}
+use Rattle.doc_book.specs.Projection.{IsShown}
 use Rattle.doc_book.specs.Verdicts.{verdict, most_entries}
 use Rattle.doc_book.proofs.Growing.{fold-push, scene_at-push, scene_of-push, places_at-push, IsLegal-push, IsSettled-push, IsSettled-push_frame, IsSettled-push_same, end_place-push_none, end_place-push_end, end_place-push_some, after_end-push_some, after_end-push_end}
 use Rattle.doc_book.proofs.Refusing.{not_ended, not_full}
@@ -86,7 +89,7 @@ counts_with_frame h budget entry other frame (Some at) is counts room =
 
 -- the frame of the present places
 pub IsKept-frame : (h : List Entry) (budget : ℕ) (scene : Diagram) (places : Places) (settled : Bool) (who line : ℕ) (f : Frame) (places' : Places) (settled' : Bool)
-    → IsKept h budget scene places settled → HasRoom h budget → IsFrameOf (places_at h) f → places' ≡ drawn f → (IsTrue settled' ↔ (drawn f ≡ places))
+    → IsKept h budget scene places settled → HasRoom h budget → IsFrameOf (scene_at h) (places_at h) f → places' ≡ drawn f → (IsTrue settled' ↔ (drawn f ≡ places))
     → IsKept (h ++ entry_of who line (act.Frame f) ∷ []) budget scene places' settled'
 IsKept-frame h budget scene places settled who line f places' settled' k room is places_are settled_is =
     let entry = entry_of who line (act.Frame f) in
@@ -95,12 +98,8 @@ IsKept-frame h budget scene places settled who line f places' settled' k room is
       legal = IsLegal-push h budget entry k.legal (room, is);
       scene_is = k.scene_is ∙ sym (scene_at-push h entry);
       places_are = places_are ∙ sym drawn_are;
-      on_x =
-          ap (λ (p : Places). length p.x) places_are
-          ∙ (ap length is.on_x ∙ (ap (λ (d : Desired). length d.x) is.proposed ∙ (length-map (places_at h).x clamped ∙ (ap (λ (p : Places). length p.x) (sym k.places_are) ∙ k.on_x))));
-      on_y =
-          ap (λ (p : Places). length p.y) places_are
-          ∙ (ap length is.on_y ∙ (ap (λ (d : Desired). length d.y) is.proposed ∙ (length-map (places_at h).y clamped ∙ (ap (λ (p : Places). length p.y) (sym k.places_are) ∙ k.on_y))));
+      on_x = ap (λ (p : Places). length p.x) places_are ∙ on_axis X scene f.desired.x f.x k.scene_is is.on_x;
+      on_y = ap (λ (p : Places). length p.y) places_are ∙ on_axis Y scene f.desired.y f.y k.scene_is is.on_y;
       settled_is = (
         λ t. IsSettled-push h entry refl (drawn_are ∙ (settled_is.0 t ∙ k.places_are)),
         λ s. settled_is.1 (sym drawn_are ∙ (IsSettled-push_same h entry s ∙ sym k.places_are)),
@@ -108,6 +107,10 @@ IsKept-frame h budget scene places settled who line f places' settled' k room is
       budget_small = k.budget_small;
       counts = counts_with_frame h budget entry refl refl (end_place h) refl k.counts room;
     }
+  where
+    on_axis : (axis : Axis) (d : Diagram) (desired : List ℤ) (c : Certificate) → d ≡ scene_at h → IsShown (scene_at h) axis desired c → length (map floor_of c.places) ≡ length (variables d axis)
+    on_axis axis d desired c same is =
+        length-map c.places floor_of ∙ (is.shown.form.places_as_long ∙ (is.projects.as_long ∙ ap (λ e. length (variables e axis)) (sym same)))
 
 -- End
 pub IsKept-end : (h : List Entry) (budget : ℕ) (scene : Diagram) (places : Places) (settled : Bool)

@@ -1,4 +1,5 @@
 pub mod Growing
 pub mod Keeping
 pub mod Refusing
+pub mod Resting
 pub mod EndPlace

@@ -1,22 +1,22 @@
 -- What the book answers to a layout and to the end of a document.
 use Rattle.std.specs.Prelude.{◌≡◌, ℕ, ◌+◌, ◌<◌, ◌≤◌, length, IsSome}
 use Rattle.frame_store.specs.declared.frames.Frame.{Frame}
-use Rattle.frame_store.specs.Frames.{IsFrameOf}
 use Rattle.doc_book.specs.declared.entries.Act.TheVariants as act
 use Rattle.doc_book.specs.declared.laying.Laid.{Laid}
 use Rattle.doc_book.specs.declared.laying.Laid.TheVariants as laid
 use Rattle.doc_book.specs.declared.laying.Finish.{Finish}
 use Rattle.doc_book.specs.declared.laying.Finish.TheVariants as finish
 use Rattle.doc_book.specs.Document.{Document}
+use Rattle.doc_book.specs.Frames.{IsFrameOf}
 use Rattle.doc_book.specs.Growing.{Grows, entry_of}
-use Rattle.doc_book.specs.History.{places_at, after_end, IsSettled}
+use Rattle.doc_book.specs.History.{scene_at, places_at, after_end, IsSettled}
 use Rattle.doc_book.specs.Legal.{most_finishing}
 use Rattle.doc_book.specs.Replies.{IsLook, Ending, Spent, Idle, Job}
 
--- the document has one entry more, the frame of its places, by this caller with this line
+-- the document has one entry more, the frame of its scene and places, by this caller with this line
 abbrev pub GrowsByFrame : Document → Document → ℕ → ℕ → ℕ → Type 0
 GrowsByFrame old new place who line =
-    (frame : Frame) × IsFrameOf (places_at old.history) frame × Grows old new place (entry_of who line (act.Frame frame))
+    (frame : Frame) × IsFrameOf (scene_at old.history) (places_at old.history) frame × Grows old new place (entry_of who line (act.Frame frame))
 
 -- a layout answers what a look finds: a frame is entered just where there is one to make and memory for it
 abbrev pub IsLaid : Document → Document → ℕ → ℕ → Laid → Type 0

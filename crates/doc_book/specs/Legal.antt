@@ -1,10 +1,10 @@
 -- Which entries may follow, and legal histories.
 use Rattle.std.specs.Prelude.{◌≡◌, ℕ, ◌<◌, List, [], ◌∷◌, ◌++◌, length, Option, Some, None, MatchOption, ⊤}
-use Rattle.frame_store.specs.Frames.{IsFrameOf}
 use Rattle.doc_book.specs.declared.entries.Entry.{Entry}
 use Rattle.doc_book.specs.declared.entries.Act.{Act}
 use Rattle.doc_book.specs.declared.entries.Act.TheVariants as act
-use Rattle.doc_book.specs.History.{places_at, end_place, frame_count, after_end}
+use Rattle.doc_book.specs.Frames.{IsFrameOf}
+use Rattle.doc_book.specs.History.{scene_at, places_at, end_place, frame_count, after_end}
 use Rattle.doc_book.specs.Verdicts.{verdict}
 
 -- the most frames after End
@@ -15,11 +15,11 @@ most_finishing = 64
 abbrev pub HasRoom : List Entry → ℕ → Type 0
 HasRoom h budget = MatchOption (end_place h) (frame_count h < budget) (λ _. length (after_end h) < most_finishing)
 
--- an entry's act may follow a history: an edit that it accepts, the frame of its places where another may come,
+-- an entry's act may follow a history: an edit that it accepts, the frame of its scene and places where another may come,
 -- and End by caller 0 with line 0, once
 abbrev pub ActMayFollow : List Entry → ℕ → Entry → Act → Type 0
 ActMayFollow h budget e (act.Edit edit) = verdict h edit ≡ None
-ActMayFollow h budget e (act.Frame frame) = HasRoom h budget × IsFrameOf (places_at h) frame
+ActMayFollow h budget e (act.Frame frame) = HasRoom h budget × IsFrameOf (scene_at h) (places_at h) frame
 ActMayFollow h budget e act.End = (e.who ≡ 0) × (e.line ≡ 0) × (end_place h ≡ None)
 
 abbrev pub MayFollow : List Entry → ℕ → Entry → Type 0

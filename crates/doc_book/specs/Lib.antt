@@ -1,10 +1,12 @@
 pub mod Answers
 pub mod Document
 pub mod Finished
+pub mod Frames
 pub mod Growing
 pub mod History
 pub mod Kept
 pub mod Legal
 pub mod Listing
+pub mod Projection
 pub mod Replies
 pub mod Verdicts

@@ -1,8 +1,9 @@
 -- The text of a listing: the entries of a history with their frames, and the replies to the lines of a script
 -- (the format is this project's own).
-use Rattle.std.specs.Prelude.{ℕ, ◌+◌, ℤ, List, [], ◌∷◌, ◌++◌, codes, filter, ◌==◌, decimal}
+use Rattle.std.specs.Prelude.{ℕ, ◌+◌, ℤ, pos, List, [], ◌∷◌, ◌++◌, codes, filter, ◌==◌, if◌then◌else◌, decimal}
 use Rattle.std.specs.List.{flat_map}
 use Rattle.std.specs.Fmt.{signed_decimal}
+use Rattle.std.specs.Ordering.{int_eq}
 use Rattle.units.specs.declared.geometry.Axis.{Axis}
 use Rattle.units.specs.declared.geometry.Axis.TheVariants.{X, Y}
 use Rattle.scene_model.specs.declared.variables.Variable.{Variable}
@@ -14,6 +15,8 @@ use Rattle.edit_rules.specs.declared.refusals.Counted.{Counted}
 use Rattle.edit_rules.specs.declared.refusals.Counted.TheVariants as counted
 use Rattle.edit_rules.specs.declared.refusals.Refusal.{Refusal}
 use Rattle.edit_rules.specs.declared.refusals.Refusal.TheVariants as refusal
+use Rattle.frac128.specs.Fraction.{Fraction}
+use Rattle.multiplier_check.specs.declared.certificate.Certificate.{Certificate}
 use Rattle.frame_store.specs.declared.frames.Frame.{Frame}
 use Rattle.script_text.specs.declared.scripts.Line.{Line}
 use Rattle.script_text.specs.Words.{Word, spaced}
@@ -41,16 +44,31 @@ axis_word Y = codes "y"
 abbrev pub variable_word : VariableName → Word
 variable_word (OfItem name) = name
 
+-- a fraction, as N where its denominator is 1, else as N/D. The fractions of a certificate are in lowest terms
+abbrev pub fraction_word : Fraction → Word
+fraction_word f = if f.den == 1 then signed_decimal f.num else signed_decimal f.num ++ 47 ∷ decimal f.den
+
 -- for each variable of an axis its name, its desired place and its place, in diagram units
-abbrev pub place_lines : Axis → List Variable → List ℤ → List ℤ → List (List Word)
+abbrev pub place_lines : Axis → List Variable → List ℤ → List Fraction → List (List Word)
 place_lines axis (v ∷ vs) (d ∷ ds) (p ∷ ps) =
-    (axis_word axis ∷ variable_word v.name ∷ signed_decimal d ∷ signed_decimal p ∷ []) ∷ place_lines axis vs ds ps
+    (axis_word axis ∷ variable_word v.name ∷ signed_decimal d ∷ fraction_word p ∷ []) ∷ place_lines axis vs ds ps
 place_lines axis _ _ _ = []
+
+-- for each separation whose multiplier isn't 0 its number, behind `#`, and the multiplier
+abbrev pub multiplier_lines : Axis → ℕ → List Fraction → List (List Word)
+multiplier_lines axis number [] = []
+multiplier_lines axis number (m ∷ ms) =
+    if int_eq m.num (pos 0) then multiplier_lines axis (number + 1) ms
+    else (axis_word axis ∷ (35 ∷ decimal number) ∷ fraction_word m ∷ []) ∷ multiplier_lines axis (number + 1) ms
+
+-- the lines of a frame on an axis: its variables, then its multipliers
+abbrev pub certificate_lines : Axis → Diagram → List ℤ → Certificate → List (List Word)
+certificate_lines axis scene desired certificate =
+    place_lines axis (variables scene axis) desired certificate.places ++ multiplier_lines axis 0 certificate.multipliers
 
 -- the lines of a frame, X before Y
 abbrev pub frame_lines : Diagram → Frame → List (List Word)
-frame_lines scene f =
-    place_lines X (variables scene X) f.desired.x f.places.x ++ place_lines Y (variables scene Y) f.desired.y f.places.y
+frame_lines scene f = certificate_lines X scene f.desired.x f.x ++ certificate_lines Y scene f.desired.y f.y
 
 -- the words of an act, and the lines below them
 abbrev pub act_words : Act → List Word

@@ -2,19 +2,20 @@
 ghost use Rattle.std.specs.Prelude.{◌≡◌, None, [], ◌∷◌, ◌++◌, length, IsSome, MatchOption, MatchResult, OnOk, OnErr};
 ghost use Rattle.edit_rules.specs.declared.refusals.Refusal.TheVariants as refusal;
 ghost use Rattle.frame_store.specs.declared.frames.Frame.{Frame as FrameValue};
-ghost use Rattle.frame_store.specs.Frames.{IsFrameOf};
 ghost use Rattle.doc_book.specs.declared.entries.Act.TheVariants as act;
 ghost use Rattle.doc_book.specs.Answers.{IsLaid, IsFinishStep};
+ghost use Rattle.doc_book.specs.Frames.{IsFrameOf};
 ghost use Rattle.doc_book.specs.Growing.{Grows, entry_of};
-ghost use Rattle.doc_book.specs.History.{end_place, places_at};
+ghost use Rattle.doc_book.specs.History.{end_place, scene_at, places_at};
 ghost use Rattle.doc_book.specs.Legal.{HasRoom};
 
 use crate::book::Book;
 use crate::entries::{Act, Entry};
+use crate::framing::frame_of;
 use crate::replies::Refused;
 use crate::scanning::{end_place, finishing_count, frame_count};
 use edit_rules::Refusal;
-use frame_store::{drawn, frame_of, settled};
+use frame_store::{drawn, settled};
 use std::alloc::Global;
 use units::Memory;
 
@@ -52,7 +53,7 @@ pub enum Finish {
 impl Book {
     /// Lays the document out once, for caller `who` and line `line`. In this order: Ending exactly after End; Spent
     /// exactly where the budget of frames stands; Idle exactly where the last entry is a frame that changed no
-    /// place; else a frame of the present places is entered, or Memory. After all but Published the document is
+    /// place; else a frame of the present scene and places is entered, or Memory. After all but Published the document is
     /// as before.
     pub fn layout(&mut self, alloc: Global, who: u8, line: u32) -> Laid
         ensures { IsLaid self.old self.new who line result }
@@ -138,11 +139,11 @@ impl Book {
     /// All growths come first, so that want of memory changes nothing.
     fn enter_frame(&mut self, alloc: Global, who: u8, line: u32) -> Result<(), Memory>
         requires { HasRoom self.old.history self.old.budget }
-        ensures entered { OnOk result ((frame : FrameValue) × IsFrameOf (places_at self.old.history) frame
+        ensures entered { OnOk result ((frame : FrameValue) × IsFrameOf (scene_at self.old.history) (places_at self.old.history) frame
             × (self.new ≡ record self.old { history = self.old.history ++ entry_of who line (act.Frame frame) ∷ [] })) }
         ensures unchanged { OnErr result (self.new ≡ self.old) }
     {
-        let frame = frame_of(alloc, &self.places)?;
+        let frame = frame_of(alloc, &self.scene, &self.places)?;
         let places = drawn(alloc, &frame)?;
         let settled = settled(&frame, &self.places);
         self.history.push(Entry {

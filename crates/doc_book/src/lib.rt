@@ -4,6 +4,7 @@
 pub mod book;
 mod editing;
 pub mod entries;
+mod framing;
 pub mod laying;
 pub mod replies;
 mod scanning;

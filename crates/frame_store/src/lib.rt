@@ -6,5 +6,5 @@ pub mod frames;
 pub mod places;
 
 pub use carrying::carry;
-pub use frames::{Frame, drawn, frame_of, settled};
+pub use frames::{Frame, drawn, settled};
 pub use places::{Desired, Places};

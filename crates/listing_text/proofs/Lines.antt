@@ -1,17 +1,20 @@
 -- Lines of words, and the lists that give them.
 use Rattle.std.proofs.Common.{◌≡◌, ℕ, ◌+◌, ◌<◌, ℤ, List, [], ◌∷◌, ◌++◌, length, drop, get_or, refl, sym, ap, ◌∙◌, append_assoc, arith, length-append, eq-eqb, ne_eqb}
-use Rattle.std.specs.Prelude.{codes, decimal, ◌==◌, true, false, slice_get, Some, pos}
+use Rattle.std.specs.Prelude.{codes, decimal, ◌==◌, true, false, cond, slice_get, Some, pos}
 use Rattle.std.specs.Fmt.{signed_decimal}
+use Rattle.std.specs.Ordering.{int_eq}
+use Rattle.std.proofs.lemmas.Bool.Decides.{Decides-int_eq}
 use Rattle.std.proofs.lemmas.List.{append-nil, drop_more}
 use Rattle.std.proofs.lemmas.Option.{get_or_from_slice_get, slice_get_within}
 use Rattle.units.specs.declared.geometry.Axis.{Axis}
 use Rattle.scene_model.specs.declared.variables.Variable.{Variable}
+use Rattle.frac128.specs.Fraction.{Fraction}
 use Rattle.script_text.specs.Words.{Word, spaced}
 use Rattle.script_text.specs.Commands.{command_words}
 use Rattle.script_text.specs.declared.scripts.Line.{Line}
 use Rattle.doc_book.specs.declared.replies.Reply.{Reply}
 use Rattle.doc_book.specs.declared.entries.Entry.{Entry}
-use Rattle.doc_book.specs.Listing.{text_line, text_lines, axis_word, variable_word, place_lines, reply_lines, reply_words, session_lines, entry_lines, sessions_lines, listing_text}
+use Rattle.doc_book.specs.Listing.{text_line, text_lines, axis_word, variable_word, fraction_word, place_lines, multiplier_lines, reply_lines, reply_words, session_lines, entry_lines, sessions_lines, listing_text}
 use Rattle.listing_text.specs.Words.{behind}
 
 pub text_lines-append : (ls ms : List (List Word)) → text_lines (ls ++ ms) ≡ text_lines ls ++ text_lines ms
@@ -62,15 +65,15 @@ made_reply t₁ t₂ t₅ t₆ a b ws e₁ e₂ e₅ e₆ = rw (spaced_behind a 
 
 -- ---- the lines of the variables of an axis
 
-pub place_lines_step : (axis : Axis) (vs : List Variable) (ds ps : List ℤ) (v : Variable) (d p : ℤ) (vs' : List Variable) (ds' ps' : List ℤ)
+pub place_lines_step : (axis : Axis) (vs : List Variable) (ds : List ℤ) (ps : List Fraction) (v : Variable) (d : ℤ) (p : Fraction) (vs' : List Variable) (ds' : List ℤ) (ps' : List Fraction)
     → vs ≡ v ∷ vs' → ds ≡ d ∷ ds' → ps ≡ p ∷ ps'
-    → text_lines (place_lines axis vs ds ps) ≡ text_line (axis_word axis ∷ variable_word v.name ∷ signed_decimal d ∷ signed_decimal p ∷ []) ++ text_lines (place_lines axis vs' ds' ps')
+    → text_lines (place_lines axis vs ds ps) ≡ text_line (axis_word axis ∷ variable_word v.name ∷ signed_decimal d ∷ fraction_word p ∷ []) ++ text_lines (place_lines axis vs' ds' ps')
 place_lines_step axis vs ds ps v d p vs' ds' ps' a b c = rw (a, b, c) refl
 
-no_variables : (axis : Axis) (ds ps : List ℤ) → place_lines axis [] ds ps ≡ []
+no_variables : (axis : Axis) (ds : List ℤ) (ps : List Fraction) → place_lines axis [] ds ps ≡ []
 no_variables axis ds ps = refl
 
-no_desired : (axis : Axis) (vs : List Variable) (ps : List ℤ) → place_lines axis vs [] ps ≡ []
+no_desired : (axis : Axis) (vs : List Variable) (ps : List Fraction) → place_lines axis vs [] ps ≡ []
 no_desired axis [] ps = refl
 no_desired axis (v ∷ vs) ps = refl
 
@@ -80,25 +83,56 @@ no_places axis (v ∷ vs) [] = refl
 no_places axis (v ∷ vs) (d ∷ ds) = refl
 
 -- no line is left where one of the lists is at its end
-pub no_lines_variables : (axis : Axis) (vs : List Variable) (ds ps : List ℤ) → vs ≡ [] → text_lines (place_lines axis vs ds ps) ≡ []
+pub no_lines_variables : (axis : Axis) (vs : List Variable) (ds : List ℤ) (ps : List Fraction) → vs ≡ [] → text_lines (place_lines axis vs ds ps) ≡ []
 no_lines_variables axis vs ds ps e = rw e (ap text_lines (no_variables axis ds ps))
 
-pub no_lines_desired : (axis : Axis) (vs : List Variable) (ds ps : List ℤ) → ds ≡ [] → text_lines (place_lines axis vs ds ps) ≡ []
+pub no_lines_desired : (axis : Axis) (vs : List Variable) (ds : List ℤ) (ps : List Fraction) → ds ≡ [] → text_lines (place_lines axis vs ds ps) ≡ []
 no_lines_desired axis vs ds ps e = rw e (ap text_lines (no_desired axis vs ps))
 
-pub no_lines_places : (axis : Axis) (vs : List Variable) (ds ps : List ℤ) → ps ≡ [] → text_lines (place_lines axis vs ds ps) ≡ []
+pub no_lines_places : (axis : Axis) (vs : List Variable) (ds : List ℤ) (ps : List Fraction) → ps ≡ [] → text_lines (place_lines axis vs ds ps) ≡ []
 no_lines_places axis vs ds ps e = rw e (ap text_lines (no_places axis vs ds))
 
+-- a list from the k-th fraction on
+fractions_more : (ps : List Fraction) (k : ℕ) (p : Fraction) → k < length ps → p ≡ get_or ps k p → drop k ps ≡ p ∷ drop (k + 1) ps
+fractions_more ps k p below is = drop_more ps k p below ∙ ap (λ q. q ∷ drop (k + 1) ps) (sym is)
+
 -- the lines from a variable on
-pub places_more : (axis : Axis) (vs : List Variable) (ds ps : List ℤ) (k at : ℕ) (v : Variable) → at ≡ k → slice_get vs k ≡ Some v → at < length ds → at < length ps
+pub places_more : (axis : Axis) (vs : List Variable) (ds : List ℤ) (ps : List Fraction) (k at : ℕ) (v : Variable) (p : Fraction)
+    → at ≡ k → slice_get vs k ≡ Some v → at < length ds → at < length ps → p ≡ get_or ps at p
     → text_lines (place_lines axis (drop k vs) (drop k ds) (drop k ps))
-    ≡ text_line (axis_word axis ∷ variable_word v.name ∷ signed_decimal (get_or ds at (pos 0)) ∷ signed_decimal (get_or ps at (pos 0)) ∷ [])
+    ≡ text_line (axis_word axis ∷ variable_word v.name ∷ signed_decimal (get_or ds at (pos 0)) ∷ fraction_word p ∷ [])
     ++ text_lines (place_lines axis (drop (k + 1) vs) (drop (k + 1) ds) (drop (k + 1) ps))
-places_more axis vs ds ps k at v same here on_d on_p =
+places_more axis vs ds ps k at v p same here on_d on_p is =
     let a : drop k vs ≡ v ∷ drop (k + 1) vs = drop_more vs k v (slice_get_within vs k v here) ∙ ap (λ x. x ∷ drop (k + 1) vs) (get_or_from_slice_get vs k v v here) in
     let b : drop k ds ≡ get_or ds at (pos 0) ∷ drop (k + 1) ds = drop_more ds k (pos 0) (omega (arith, same, on_d)) ∙ ap (λ n. get_or ds n (pos 0) ∷ drop (k + 1) ds) (sym same) in
-    let c : drop k ps ≡ get_or ps at (pos 0) ∷ drop (k + 1) ps = drop_more ps k (pos 0) (omega (arith, same, on_p)) ∙ ap (λ n. get_or ps n (pos 0) ∷ drop (k + 1) ps) (sym same) in
-    place_lines_step axis (drop k vs) (drop k ds) (drop k ps) v (get_or ds at (pos 0)) (get_or ps at (pos 0)) (drop (k + 1) vs) (drop (k + 1) ds) (drop (k + 1) ps) a b c
+    let c : drop k ps ≡ p ∷ drop (k + 1) ps = fractions_more ps k p (omega (arith, same, on_p)) (is ∙ ap (λ n. get_or ps n p) same) in
+    place_lines_step axis (drop k vs) (drop k ds) (drop k ps) v (get_or ds at (pos 0)) p (drop (k + 1) vs) (drop (k + 1) ds) (drop (k + 1) ps) a b c
+
+-- ---- the lines of the multipliers of an axis
+
+-- a multiplier that is 0 has no line
+pub multipliers_skip : (axis : Axis) (ms : List Fraction) (k : ℕ) (m : Fraction) → k < length ms → m ≡ get_or ms k m → m.num ≡ pos 0
+    → multiplier_lines axis k (drop k ms) ≡ multiplier_lines axis (k + 1) (drop (k + 1) ms)
+multipliers_skip axis ms k m below is zero = ap (multiplier_lines axis k) (fractions_more ms k m below is) ∙ skipped
+  where
+    skipped : multiplier_lines axis k (m ∷ drop (k + 1) ms) ≡ multiplier_lines axis (k + 1) (drop (k + 1) ms)
+    skipped = ap (λ z. cond (int_eq z (pos 0)) (multiplier_lines axis (k + 1) (drop (k + 1) ms)) ((axis_word axis ∷ (35 ∷ decimal k) ∷ fraction_word m ∷ []) ∷ multiplier_lines axis (k + 1) (drop (k + 1) ms))) zero
+
+-- every other has one
+pub multipliers_more : (axis : Axis) (ms : List Fraction) (k : ℕ) (m : Fraction) → k < length ms → m ≡ get_or ms k m → (m.num ≡ pos 0 → ⊥)
+    → text_lines (multiplier_lines axis k (drop k ms))
+    ≡ text_line (axis_word axis ∷ (35 ∷ decimal k) ∷ fraction_word m ∷ []) ++ text_lines (multiplier_lines axis (k + 1) (drop (k + 1) ms))
+multipliers_more axis ms k m below is other = ap (λ fs. text_lines (multiplier_lines axis k fs)) (fractions_more ms k m below is) ∙ ap text_lines shown
+  where
+    shown : multiplier_lines axis k (m ∷ drop (k + 1) ms) ≡ (axis_word axis ∷ (35 ∷ decimal k) ∷ fraction_word m ∷ []) ∷ multiplier_lines axis (k + 1) (drop (k + 1) ms)
+    shown = ap (λ b. cond b (multiplier_lines axis (k + 1) (drop (k + 1) ms)) ((axis_word axis ∷ (35 ∷ decimal k) ∷ fraction_word m ∷ []) ∷ multiplier_lines axis (k + 1) (drop (k + 1) ms))) (int_eq-false m.num other)
+
+    int_eq-false : (z : ℤ) → (z ≡ pos 0 → ⊥) → int_eq z (pos 0) ≡ false
+    int_eq-false z other = by (int_eq z (pos 0)) (Decides-int_eq z (pos 0))
+      where
+        by : (b : Bool) → Decides b (z ≡ pos 0) → b ≡ false
+        by true d = absurd (other (d.0 refl))
+        by false d = refl
 
 -- a text grows by a line of the rest
 pub grows : (text text' line rest rest' whole : List ℕ) → text' ≡ text ++ line → rest ≡ line ++ rest' → text ++ rest ≡ whole → text' ++ rest' ≡ whole

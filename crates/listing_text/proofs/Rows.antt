@@ -4,6 +4,8 @@ use Rattle.std.specs.Fmt.{digits}
 use Rattle.scene_model.specs.declared.items.Form.TheVariants.{Box}
 use Rattle.edit_rules.specs.declared.edits.Edit.{Edit}
 use Rattle.edit_rules.specs.declared.edits.Edit.TheVariants as edit
+use Rattle.frac128.specs.Fraction.{Fraction, whole}
+use Rattle.multiplier_check.specs.declared.certificate.Certificate.{Certificate}
 use Rattle.frame_store.specs.declared.frames.Frame.{Frame}
 use Rattle.script_text.specs.declared.scripts.Command.TheVariants as command
 use Rattle.script_text.specs.declared.scripts.Line.{Line}
@@ -16,8 +18,11 @@ use Rattle.doc_book.specs.Listing.{listing_text}
 no_replies : List (List Reply)
 no_replies = [] ∷ [] ∷ [] ∷ [] ∷ [] ∷ [] ∷ [] ∷ [] ∷ []
 
+abbrev no_separations : List Fraction → Certificate
+no_separations places = record { places = places; multipliers = [] }
+
 abbrev nothing : Frame
-nothing = record { desired = record { x = []; y = [] }; places = record { x = []; y = [] } }
+nothing = record { desired = record { x = []; y = [] }; x = no_separations []; y = no_separations [] }
 
 abbrev end : Entry
 end = record { who = 0; line = 0; act = act.End }
@@ -34,7 +39,7 @@ abbrev a_box : Edit
 a_box = edit.Put (codes "a") Box (pos 3) (pos 4) (pos 40) (pos 20)
 
 abbrev one_frame : Frame
-one_frame = record { desired = record { x = pos 3 ∷ []; y = pos 4 ∷ [] }; places = record { x = pos 3 ∷ []; y = pos 4 ∷ [] } }
+one_frame = record { desired = record { x = pos 3 ∷ []; y = pos 4 ∷ [] }; x = no_separations (whole (pos 3) ∷ []); y = no_separations (whole (pos 4) ∷ []) }
 
 abbrev script : List Line
 script =

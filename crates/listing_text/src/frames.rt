@@ -1,12 +1,14 @@
 //! The lines of a frame.
-ghost use Rattle.std.specs.Prelude.{◌≡◌, ◌∷◌, ◌++◌, [], OnOk};
+ghost use Rattle.std.specs.Prelude.{◌≡◌, ◌∷◌, ◌++◌, [], decimal, OnOk};
 ghost use Rattle.std.specs.Fmt.{signed_decimal};
 ghost use Rattle.scene_model.specs.Variables.{variables};
-ghost use Rattle.doc_book.specs.Listing.{axis_word, variable_word, text_line, text_lines, place_lines, frame_lines, lines_below};
+ghost use Rattle.doc_book.specs.Listing.{axis_word, variable_word, fraction_word, text_line, text_lines, place_lines, multiplier_lines, certificate_lines, frame_lines, lines_below};
 
-use crate::words::{add_number, add_word, axis_word};
+use crate::words::{add_fraction, add_number, add_word, axis_word, begin_with};
 use doc_book::Act;
+use frac128::Frac;
 use frame_store::Frame;
+use multiplier_check::Certificate;
 use scene_model::{Scene, VariableName};
 use std::alloc::AllocError;
 use units::Axis;
@@ -17,17 +19,17 @@ fn add_place_line(
     axis: Axis,
     name: &VariableName,
     desired: i64,
-    place: i64,
+    place: &Frac,
 ) -> Result<(), AllocError>
     ensures { OnOk result (text.new.items ≡ text.old.items
-        ++ text_line (axis_word axis ∷ variable_word name.now ∷ signed_decimal desired ∷ signed_decimal place ∷ [])) }
+        ++ text_line (axis_word axis ∷ variable_word name.now ∷ signed_decimal desired ∷ fraction_word place.now ∷ [])) }
 {
     text.extend_from_slice(axis_word(axis))?;
     match name {
         VariableName::OfItem(name) => add_word(text, name.bytes())?,
     }
     add_number(text, desired)?;
-    add_number(text, place)?;
+    add_fraction(text, place)?;
     text.push(b'\n')?;
     Ok(())
 }
@@ -38,7 +40,7 @@ fn add_places(
     scene: &Scene,
     axis: Axis,
     desired: &[i64],
-    places: &[i64],
+    places: &[Frac],
 ) -> Result<(), AllocError>
     ensures { OnOk result (text.new.items ≡ text.old.items
         ++ text_lines (place_lines axis (variables scene.now axis) desired.now places.now)) }
@@ -52,9 +54,55 @@ fn add_places(
             return Ok(());
         }
         let variable = scene.variable(axis, var);
-        add_place_line(text, axis, &variable.name, desired[at], places[at])?;
+        add_place_line(text, axis, &variable.name, desired[at], &places[at])?;
     }
     Ok(())
+}
+
+/// Adds the line of a separation: its number and its multiplier.
+fn add_multiplier_line(
+    text: &mut Vec<u8>,
+    axis: Axis,
+    number: usize,
+    multiplier: &Frac,
+) -> Result<(), AllocError>
+    ensures { OnOk result (text.new.items ≡ text.old.items
+        ++ text_line (axis_word axis ∷ (35 ∷ decimal number) ∷ fraction_word multiplier.now ∷ [])) }
+{
+    text.extend_from_slice(axis_word(axis))?;
+    text.extend_from_slice(b" #")?;
+    begin_with(text, number)?;
+    add_fraction(text, multiplier)?;
+    text.push(b'\n')?;
+    Ok(())
+}
+
+/// Adds the lines of the multipliers that aren't 0.
+fn add_multipliers(text: &mut Vec<u8>, axis: Axis, multipliers: &[Frac]) -> Result<(), AllocError>
+    ensures { OnOk result (text.new.items ≡ text.old.items ++ text_lines (multiplier_lines axis 0 multipliers.now)) }
+{
+    for (number, multiplier) in multipliers.iter().enumerate() {
+        if multiplier.is_zero() {
+            continue;
+        }
+        add_multiplier_line(text, axis, number, multiplier)?;
+    }
+    Ok(())
+}
+
+/// Adds the lines of a frame on an axis: its variables, then its multipliers.
+fn add_certificate(
+    text: &mut Vec<u8>,
+    scene: &Scene,
+    axis: Axis,
+    desired: &[i64],
+    certificate: &Certificate,
+) -> Result<(), AllocError>
+    ensures { OnOk result (text.new.items ≡ text.old.items
+        ++ text_lines (certificate_lines axis scene.now desired.now certificate.now)) }
+{
+    add_places(text, scene, axis, desired, certificate.places.as_slice())?;
+    add_multipliers(text, axis, certificate.multipliers.as_slice())
 }
 
 /// Adds the lines of a frame of the scene, X before Y.
@@ -62,21 +110,8 @@ fn add_frame(text: &mut Vec<u8>, scene: &Scene, frame: &Frame) -> Result<(), All
     ensures { OnOk result (text.new.items ≡ text.old.items ++ text_lines (frame_lines scene.now frame.now)) }
 {
     let desired = &frame.desired;
-    let places = &frame.places;
-    add_places(
-        text,
-        scene,
-        Axis::X,
-        desired.x.as_slice(),
-        places.x.as_slice(),
-    )?;
-    add_places(
-        text,
-        scene,
-        Axis::Y,
-        desired.y.as_slice(),
-        places.y.as_slice(),
-    )
+    add_certificate(text, scene, Axis::X, desired.x.as_slice(), &frame.x)?;
+    add_certificate(text, scene, Axis::Y, desired.y.as_slice(), &frame.y)
 }
 
 /// Adds the lines below an act.
