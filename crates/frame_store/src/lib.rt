@@ -8,3 +8,6 @@ pub mod places;
 pub use carrying::carry;
 pub use frames::{Frame, drawn, settled};
 pub use places::{Desired, Places};
+
+#[cfg(test)]
+mod tests;

@@ -1,8 +1,9 @@
 -- Lines of words, and the lists that give them.
 use Rattle.std.proofs.Common.{◌≡◌, ℕ, ◌+◌, ◌<◌, ℤ, List, [], ◌∷◌, ◌++◌, length, drop, get_or, refl, sym, ap, ◌∙◌, append_assoc, arith, length-append, eq-eqb, ne_eqb}
-use Rattle.std.specs.Prelude.{codes, decimal, ◌==◌, true, false, cond, slice_get, Some, pos}
+use Rattle.std.specs.Prelude.{codes, decimal, ◌==◌, true, false, cond, slice_get, Some, pos, Bool}
 use Rattle.std.specs.Fmt.{signed_decimal}
 use Rattle.std.specs.Ordering.{int_eq}
+use Rattle.std.specs.Bool.{Decides}
 use Rattle.std.proofs.lemmas.Bool.Decides.{Decides-int_eq}
 use Rattle.std.proofs.lemmas.List.{append-nil, drop_more}
 use Rattle.std.proofs.lemmas.Option.{get_or_from_slice_get, slice_get_within}
@@ -110,29 +111,21 @@ places_more axis vs ds ps k at v p same here on_d on_p is =
 
 -- ---- the lines of the multipliers of an axis
 
--- a multiplier that is 0 has no line
-pub multipliers_skip : (axis : Axis) (ms : List Fraction) (k : ℕ) (m : Fraction) → k < length ms → m ≡ get_or ms k m → m.num ≡ pos 0
-    → multiplier_lines axis k (drop k ms) ≡ multiplier_lines axis (k + 1) (drop (k + 1) ms)
-multipliers_skip axis ms k m below is zero = ap (multiplier_lines axis k) (fractions_more ms k m below is) ∙ skipped
-  where
-    skipped : multiplier_lines axis k (m ∷ drop (k + 1) ms) ≡ multiplier_lines axis (k + 1) (drop (k + 1) ms)
-    skipped = ap (λ z. cond (int_eq z (pos 0)) (multiplier_lines axis (k + 1) (drop (k + 1) ms)) ((axis_word axis ∷ (35 ∷ decimal k) ∷ fraction_word m ∷ []) ∷ multiplier_lines axis (k + 1) (drop (k + 1) ms))) zero
-
--- every other has one
+-- a multiplier that isn't 0 has a line
 pub multipliers_more : (axis : Axis) (ms : List Fraction) (k : ℕ) (m : Fraction) → k < length ms → m ≡ get_or ms k m → (m.num ≡ pos 0 → ⊥)
     → text_lines (multiplier_lines axis k (drop k ms))
     ≡ text_line (axis_word axis ∷ (35 ∷ decimal k) ∷ fraction_word m ∷ []) ++ text_lines (multiplier_lines axis (k + 1) (drop (k + 1) ms))
 multipliers_more axis ms k m below is other = ap (λ fs. text_lines (multiplier_lines axis k fs)) (fractions_more ms k m below is) ∙ ap text_lines shown
   where
-    shown : multiplier_lines axis k (m ∷ drop (k + 1) ms) ≡ (axis_word axis ∷ (35 ∷ decimal k) ∷ fraction_word m ∷ []) ∷ multiplier_lines axis (k + 1) (drop (k + 1) ms)
-    shown = ap (λ b. cond b (multiplier_lines axis (k + 1) (drop (k + 1) ms)) ((axis_word axis ∷ (35 ∷ decimal k) ∷ fraction_word m ∷ []) ∷ multiplier_lines axis (k + 1) (drop (k + 1) ms))) (int_eq-false m.num other)
-
     int_eq-false : (z : ℤ) → (z ≡ pos 0 → ⊥) → int_eq z (pos 0) ≡ false
     int_eq-false z other = by (int_eq z (pos 0)) (Decides-int_eq z (pos 0))
       where
         by : (b : Bool) → Decides b (z ≡ pos 0) → b ≡ false
         by true d = absurd (other (d.0 refl))
         by false d = refl
+
+    shown : multiplier_lines axis k (m ∷ drop (k + 1) ms) ≡ (axis_word axis ∷ (35 ∷ decimal k) ∷ fraction_word m ∷ []) ∷ multiplier_lines axis (k + 1) (drop (k + 1) ms)
+    shown = ap (λ b. cond b (multiplier_lines axis (k + 1) (drop (k + 1) ms)) ((axis_word axis ∷ (35 ∷ decimal k) ∷ fraction_word m ∷ []) ∷ multiplier_lines axis (k + 1) (drop (k + 1) ms))) (int_eq-false m.num other)
 
 -- a text grows by a line of the rest
 pub grows : (text text' line rest rest' whole : List ℕ) → text' ≡ text ++ line → rest ≡ line ++ rest' → text ++ rest ≡ whole → text' ++ rest' ≡ whole

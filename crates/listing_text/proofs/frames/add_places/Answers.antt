@@ -2,7 +2,7 @@ use Rattle.std.proofs.Common.{◌≡◌, ◌+◌, ◌≤◌, [], ◌∷◌, ◌+
 use Rattle.std.specs.Prelude.{pos, FitsSigned}
 use Rattle.std.proofs.lemmas.Int.{to_z-of_z}
 use Rattle.std.specs.Fmt.{signed_decimal}
-use Rattle.doc_book.specs.Listing.{axis_word, variable_word, text_line, text_lines, place_lines}
+use Rattle.doc_book.specs.Listing.{axis_word, variable_word, fraction_word, text_line, text_lines, place_lines}
 use Rattle.std.proofs.lemmas.List.{drop_all}
 use Rattle.scene_model.specs.Variables.{variables}
 use Rattle.listing_text.proofs.Lines.{no_lines_desired, no_lines_places, places_more, grows, is_whole}
@@ -30,20 +30,16 @@ loop-var-preserved c =
     let ds = c.args.desired.now in
     let ps = c.args.places.now in
     let d = get_or ds at (pos 0) in
-    let p = get_or ps at (pos 0) in
-    let line = λ (m n : ℤ). text_line (axis_word c.args.axis ∷ variable_word c.variable-variable.result.name ∷ signed_decimal m ∷ signed_decimal n ∷ []) in
+    let line = λ (m : ℤ). text_line (axis_word c.args.axis ∷ variable_word c.variable-variable.result.name ∷ signed_decimal m ∷ fraction_word c.index-places-at.result ∷ []) in
     let fits_d : FitsSigned w64 d = search rules in
-    let fits_p : FitsSigned w64 p = search rules in
     let same_d : to_z w64 (of_z w64 d) ≡ d = to_z-of_z w64 d fits_d in
-    let same_p : to_z w64 (of_z w64 p) ≡ p = to_z-of_z w64 p fits_p in
-    let passed : c.add_place_line.new.text.items ≡ c.loop-var.text.items ++ line (to_z w64 (of_z w64 d)) (to_z w64 (of_z w64 p)) = c.in_ok-add_place_line.ensures in
-    let grown : c.add_place_line.new.text.items ≡ c.loop-var.text.items ++ line d p = passed
-    ∙ ap (λ (m : ℤ). c.loop-var.text.items ++ line m (to_z w64 (of_z w64 p))) same_d
-    ∙ ap (λ (n : ℤ). c.loop-var.text.items ++ line d n) same_p in
-    grows c.loop-var.text.items c.add_place_line.new.text.items (line d p)
+    let passed : c.add_place_line.new.text.items ≡ c.loop-var.text.items ++ line (to_z w64 (of_z w64 d)) = c.in_ok-add_place_line.ensures in
+    let grown : c.add_place_line.new.text.items ≡ c.loop-var.text.items ++ line d = passed
+    ∙ ap (λ (m : ℤ). c.loop-var.text.items ++ line m) same_d in
+    grows c.loop-var.text.items c.add_place_line.new.text.items (line d)
     (text_lines (place_lines c.args.axis (drop k vs) (drop k ds) (drop k ps)))
     (text_lines (place_lines c.args.axis (drop (k + 1) vs) (drop (k + 1) ds) (drop (k + 1) ps)))
     (c.args.text.now.items ++ text_lines (place_lines c.args.axis vs ds ps))
     grown
-    (places_more c.args.axis vs ds ps k at c.variable-variable.result c.from-at.ensures c.variable-variable.ensures c.if-at-desired.false c.if-at-places.false)
+    (places_more c.args.axis vs ds ps k at c.variable-variable.result c.index-places-at.result c.from-at.ensures c.variable-variable.ensures c.if-at-desired.false c.if-at-places.false c.index-places-at.is)
     c.loop-var.invariant
