@@ -14,3 +14,6 @@ pub use editing::MOST_ENTRIES;
 pub use entries::{Act, Entry};
 pub use laying::{Finish, Laid, MOST_FINISHING};
 pub use replies::{Refused, Reply};
+
+#[cfg(test)]
+mod tests;
