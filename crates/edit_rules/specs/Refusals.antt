@@ -32,6 +32,7 @@ abbrev pub taken_by : Diagram → Option NameOf → Option Refusal
 taken_by d None = None
 taken_by d (Some name) = if stands d name then Some (refusal.Taken name) else None
 
+-- the new name of the edit, where it stands already
 abbrev pub taken_refusal : Diagram → Edit → Option Refusal
 taken_refusal d e = taken_by d (new_name e)
 

@@ -9,3 +9,6 @@ mod rules;
 pub use edits::Edit;
 pub use refusals::{Counted, Refusal};
 pub use rules::{apply, check};
+
+#[cfg(test)]
+mod tests;

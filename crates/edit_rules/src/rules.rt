@@ -90,7 +90,8 @@ pub fn check(scene: &Scene, edit: &Edit) -> Result<(), Refusal>
     Ok(())
 }
 
-/// Edits the scene, which accepts the edit. After want of memory the scene is as before.
+/// Edits the scene, which accepts the edit: `check` tells whether it does. After want of memory the scene is as
+/// before.
 pub fn apply(scene: &mut Scene, edit: Edit) -> Result<(), Memory>
     requires { refusal_of scene.old edit ≡ None }
     ensures edited { OnOk result (scene.new ≡ edited edit scene.old) }

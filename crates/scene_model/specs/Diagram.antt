@@ -8,6 +8,7 @@ use Rattle.scene_model.specs.Names.{NameOf, same_name}
 pub record Diagram : Type 0 where
   pub shapes : List Shape
 
+-- the diagram without items
 abbrev pub empty_diagram : Diagram
 empty_diagram = record { shapes = [] }
 

@@ -27,6 +27,7 @@ item_named d name = option_map (λ at. record { sort = sort.Shape; at = at }) (p
 abbrev pub variable_number : Diagram → Item → ℕ
 variable_number d item = item.at
 
+-- the name of an item of any sort
 abbrev pub name_of_thing : Thing → NameOf
 name_of_thing (thing.Shape s) = s.name
 

@@ -7,6 +7,7 @@ use Rattle.units.specs.declared.geometry.Axis.TheVariants.{X, Y}
 abbrev pub NameOf : Type 0
 NameOf = List ℕ
 
+-- two names are the same where their bytes are
 abbrev pub same_name : NameOf → NameOf → Bool
 same_name = bytes_eq
 

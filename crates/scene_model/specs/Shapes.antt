@@ -8,5 +8,6 @@ use Rattle.scene_model.specs.Names.{NameOf}
 abbrev pub AreNamed : List (NameOf × Shape) → Type 0
 AreNamed entries = AllByRecursion (λ e. e.0 ≡ e.1.name) entries
 
+-- the shapes of the map, in the order in which they were put in
 abbrev pub shapes_of : List (NameOf × Shape) → List Shape
 shapes_of entries = map (λ e. e.1) entries

@@ -10,3 +10,6 @@ pub use items::{Form, Item, Shape, Sort, Thing};
 pub use scene::Scene;
 pub use shapes::Shapes;
 pub use variables::{Variable, VariableName};
+
+#[cfg(test)]
+mod tests;

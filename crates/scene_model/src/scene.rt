@@ -62,7 +62,7 @@ impl Scene {
         }
     }
 
-    /// The shape of this number.
+    /// The shape of this number, which is below `count` of shapes; `lookup` finds one of a name.
     pub fn shape(&self, at: u16) -> &Shape
         requires { at < length self.now.shapes }
         ensures value { slice_get self.now.shapes at ≡ Some result.now }
@@ -80,7 +80,8 @@ impl Scene {
         self.count(Sort::Shape)
     }
 
-    /// The variable of this number: the weight, the anchor and the count of moves of what it places.
+    /// The variable of this number, which is below `vars`: the weight, the anchor (in diagram units) and the count of
+    /// moves of what it places.
     pub fn variable(&self, axis: Axis, var: u16) -> Variable
         requires { var < length (variables self.now axis) }
         ensures { slice_get (variables self.now axis) var ≡ Some result }
@@ -107,7 +108,8 @@ impl Scene {
         Some(number as u16)
     }
 
-    /// Adds an item, the last of its sort. After want of memory the scene is as before.
+    /// Adds an item, the last of its sort. Its name is new, which `lookup` tells; its numbers lie in their ranges; and
+    /// there is room, which `count` tells: fewer than 128 shapes stand. After want of memory the scene is as before.
     pub fn add(&mut self, thing: Thing) -> Result<(), Memory>
         requires free { stands self.old (name_of_thing thing) ≡ false }
         requires sound { IsThing thing }

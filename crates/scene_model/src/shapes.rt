@@ -69,7 +69,7 @@ impl Shapes {
         *self.at(number).unwrap()
     }
 
-    /// Adds a shape of a new name at the end. After want of memory the shapes are as before.
+    /// Adds a shape at the end. Its name is new, which `number_of` tells. After want of memory the shapes are as before.
     pub fn push(&mut self, shape: Shape) -> Result<(), Memory>
         requires { list_any (same_name shape.name) (shape_names self.old) ≡ false }
         ensures added { OnOk result (self.new ≡ self.old ++ shape ∷ []) }
@@ -79,7 +79,7 @@ impl Shapes {
         Ok(())
     }
 
-    /// Shapes equal to these.
+    /// Shapes equal to these. Their names differ, as they do after each `push`.
     pub fn copy(&self, alloc: Global) -> Result<Shapes, Memory>
         requires { IsDistinct same_name (shape_names self.now) }
         ensures { IfOk result (λ copy. copy ≡ self.now) }

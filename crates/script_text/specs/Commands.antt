@@ -22,16 +22,20 @@ pub data Field : Type 0 where
 abbrev pub form_word : Form → Word
 form_word form.Box = codes "box"
 
+-- the word of an edit: that of the form of its shape
 abbrev pub edit_word : Edit → Word
 edit_word (edit.Put n f x y w h) = form_word f
 
+-- the fields of an edit: the name, the place on X and on Y, the width and the height
 abbrev pub edit_fields : Edit → List Field
 edit_fields (edit.Put n f x y w h) = NameField n ∷ NumberField x ∷ NumberField y ∷ NumberField w ∷ NumberField h ∷ []
 
+-- the word of a command
 abbrev pub command_word : Command → Word
 command_word (command.Edit e) = edit_word e
 command_word command.Layout = codes "layout"
 
+-- the fields of a command; a layout has none
 abbrev pub command_fields : Command → List Field
 command_fields (command.Edit e) = edit_fields e
 command_fields command.Layout = []
@@ -43,6 +47,7 @@ abbrev pub field_words : Field → List Word
 field_words (NameField n) = n ∷ []
 field_words (NumberField z) = signed_decimal z ∷ []
 
+-- the words of all fields, in order
 abbrev pub fields_words : List Field → List Word
 fields_words [] = []
 fields_words (f ∷ fs) = field_words f ++ fields_words fs
@@ -62,6 +67,7 @@ abbrev pub IsField : Field → Type 0
 IsField (NameField n) = is_name n ≡ true
 IsField (NumberField z) = nat_abs z < 10 ^ 9
 
+-- each field of a list is one
 abbrev pub AreFields : List Field → Type 0
 AreFields [] = ⊤
 AreFields (f ∷ fs) = IsField f × AreFields fs

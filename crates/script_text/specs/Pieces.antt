@@ -13,5 +13,6 @@ abbrev pub pieces_of : ℕ → Option (Bor (List ℕ)) → List (List ℕ)
 pieces_of by None = []
 pieces_of by (Some rest) = pieces by rest.now
 
+-- the pieces that a cursor has still to give
 abbrev pub pieces_left : Inside → List (List ℕ)
 pieces_left a = pieces_of a.by a.rest

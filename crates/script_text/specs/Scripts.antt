@@ -38,6 +38,7 @@ pub record IsScript (lines : List Line) : Type 0 where
 
 -- ---- the bytes of a script
 
+-- a text with the LF at its end
 abbrev pub with_lf : List ℕ → List ℕ
 with_lf text = text ++ 10 ∷ []
 
@@ -56,6 +57,7 @@ pub record Spells (bytes : List ℕ) (lines : List Line) : Type 0 where
 
 -- ---- faults
 
+-- no script has these bytes
 abbrev pub SpellsNone : List ℕ → Type 0
 SpellsNone bytes = (lines : List Line) → Spells bytes lines → ⊥
 

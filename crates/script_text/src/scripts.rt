@@ -45,7 +45,7 @@ impl Model for Script {
 }
 
 impl Script {
-    /// The script with these lines.
+    /// The script with these lines, which are those of a script; `read` is the test of bytes, and makes one of them.
     pub fn of(lines: Vec<Line>) -> Script
         requires { IsScript lines.items }
         ensures { result ≡ lines.items }
