@@ -1,6 +1,7 @@
 -- One line more of those that were played.
-use Rattle.std.proofs.Common.{◌≡◌, ℕ, zero, suc, ◌+◌, ◌<◌, ◌≤◌, List, [], ◌∷◌, ◌++◌, map, cond, Option, Some, None, length, take, get_or, refl, ap, sym, ◌∙◌, subst, arith, ◌==◌, slice_get, inl, inr}
+use Rattle.std.proofs.Common.{◌≡◌, ◌≢◌, ℕ, zero, suc, ◌+◌, ◌-◌, ◌<◌, ◌≤◌, List, [], ◌∷◌, ◌++◌, map, cond, Option, Some, None, length, take, get_or, refl, ap, sym, ◌∙◌, subst, arith, ◌==◌, slice_get, slice_set, true, false, eq-eqb, ne_eqb, inl, inr}
 use Rattle.std.specs.List.{AllByRecursion}
+use Rattle.std.specs.Prelude.{replicate}
 use Rattle.std.proofs.lemmas.List.{append-nil, map_push, length-append, take_more}
 use Rattle.std.proofs.lemmas.List.Elements.{filter-append}
 use Rattle.script_text.specs.declared.scripts.Line.{Line}
@@ -8,9 +9,11 @@ use Rattle.doc_book.specs.declared.entries.Entry.{Entry}
 use Rattle.doc_book.specs.declared.replies.Reply.{Reply}
 use Rattle.doc_book.specs.declared.replies.Reply.TheVariants as reply
 use Rattle.doc_book.specs.Document.{Document}
+use Rattle.doc_book.specs.Listing.{session_lines}
 use Rattle.doc_book.specs.Replies.{IsRightReply, AreRightReplies, OwnEntriesAre, own_entries, made_places, after_of, from_of}
-use Rattle.editor_run.specs.Progress.{Adds, PlaysLine, HasPlayed, IsSessionEntry, made_place}
-use Rattle.editor_run.proofs.Later.{AreRightReplies-append, elements-append}
+use Rattle.editor_run.specs.Played.{ForSessions}
+use Rattle.editor_run.specs.Progress.{Adds, PlaysLine, HasReplies, HasPlayed, IsSessionLine, IsSessionEntry, made_place, with_reply}
+use Rattle.editor_run.proofs.Later.{AreRightReplies-append, OwnEntriesAre-append, elements-append}
 use Rattle.editor_run.proofs.Replying.{slice_get-last}
 
 -- ---- what holds of each element
@@ -63,22 +66,22 @@ made_places-some (reply.Spent front) p some = cc
 
 -- ---- own entries with one more
 
-OwnEntriesAre-none : (h : List Entry) (rs : List Reply) (r : Reply) → OwnEntriesAre h 1 rs → made_place r ≡ None → OwnEntriesAre h 1 (rs ++ r ∷ [])
-OwnEntriesAre-none h rs r are none =
+OwnEntriesAre-none : (h : List Entry) (who : ℕ) (rs : List Reply) (r : Reply) → OwnEntriesAre h who rs → made_place r ≡ None → OwnEntriesAre h who (rs ++ r ∷ [])
+OwnEntriesAre-none h who rs r are none =
     let same : made_places (rs ++ r ∷ []) ≡ made_places rs =
     made_places-append rs (r ∷ []) ∙ ap (λ ps. made_places rs ++ ps) (made_places-none r none) ∙ append-nil (made_places rs) in
     are ∙ ap (map (slice_get h)) (sym same)
 
-OwnEntriesAre-some : (h : List Entry) (rs : List Reply) (r : Reply) (e : Entry) → OwnEntriesAre h 1 rs → e.who ≡ 1 → made_place r ≡ Some (length h)
-    → OwnEntriesAre (h ++ e ∷ []) 1 (rs ++ r ∷ [])
-OwnEntriesAre-some h rs r e are who some =
-    let one : own_entries (e ∷ []) 1 ≡ e ∷ [] = ap (λ (w : ℕ). cond (w == 1) (e ∷ []) []) who in
-    let split : own_entries (h ++ e ∷ []) 1 ≡ own_entries h 1 ++ own_entries (e ∷ []) 1 = filter-append _ h (e ∷ []) in
-    let own : own_entries (h ++ e ∷ []) 1 ≡ own_entries h 1 ++ e ∷ [] = split ∙ ap (λ (es : List Entry). own_entries h 1 ++ es) one in
-    let left : map Some (own_entries h 1 ++ e ∷ []) ≡ map Some (own_entries h 1) ++ Some e ∷ [] = map_push Some (own_entries h 1) e in
+OwnEntriesAre-some : (h : List Entry) (who : ℕ) (rs : List Reply) (r : Reply) (e : Entry) → OwnEntriesAre h who rs → e.who ≡ who → made_place r ≡ Some (length h)
+    → OwnEntriesAre (h ++ e ∷ []) who (rs ++ r ∷ [])
+OwnEntriesAre-some h who rs r e are by_who some =
+    let one : own_entries (e ∷ []) who ≡ e ∷ [] = ap (λ b. cond b (e ∷ []) []) (eq-eqb e.who who by_who) in
+    let split : own_entries (h ++ e ∷ []) who ≡ own_entries h who ++ own_entries (e ∷ []) who = filter-append _ h (e ∷ []) in
+    let own : own_entries (h ++ e ∷ []) who ≡ own_entries h who ++ e ∷ [] = split ∙ ap (λ (es : List Entry). own_entries h who ++ es) one in
+    let left : map Some (own_entries h who ++ e ∷ []) ≡ map Some (own_entries h who) ++ Some e ∷ [] = map_push Some (own_entries h who) e in
     let places : made_places (rs ++ r ∷ []) ≡ made_places rs ++ length h ∷ [] =
     made_places-append rs (r ∷ []) ∙ ap (λ ps. made_places rs ++ ps) (made_places-some r (length h) some) in
-    let old : map Some (own_entries h 1) ≡ map (slice_get (h ++ e ∷ [])) (made_places rs) = elements-append h (e ∷ []) (own_entries h 1) (made_places rs) are in
+    let old : map Some (own_entries h who) ≡ map (slice_get (h ++ e ∷ [])) (made_places rs) = elements-append h (e ∷ []) (own_entries h who) (made_places rs) are in
     let right : map (slice_get (h ++ e ∷ [])) (made_places rs ++ length h ∷ []) ≡ map (slice_get (h ++ e ∷ [])) (made_places rs) ++ slice_get (h ++ e ∷ []) (length h) ∷ [] =
     map_push (slice_get (h ++ e ∷ [])) (made_places rs) (length h) in
     let last : slice_get (h ++ e ∷ []) (length h) ≡ Some e = slice_get-last h e in
@@ -87,65 +90,141 @@ OwnEntriesAre-some h rs r e are who some =
     ∙ ap (λ (o : Option Entry). map (slice_get (h ++ e ∷ [])) (made_places rs) ++ o ∷ []) (sym last)
     ∙ sym right ∙ ap (map (slice_get (h ++ e ∷ []))) (sym places)
 
--- ---- one line more
+-- ---- the replies of one session, with one line more
 
--- what a line added, as a list: nothing, or one entry of session 1 that isn't End
-record Grown (old new : List Entry) (rs : List Reply) : Type 0 where
+-- what a line added, as a list: nothing, or one entry of its session that isn't End
+record Grown (old new : List Entry) (session : ℕ) : Type 0 where
   more : List Entry
   split : new ≡ old ++ more
   entries : AllByRecursion IsSessionEntry old → AllByRecursion IsSessionEntry new
-  own : OwnEntriesAre new 1 rs
+  others : (t : ℕ) → t ≢ session → AllByRecursion (λ (e : Entry). e.who ≢ t) more
 
-grown : (old new : List Entry) (session : ℕ) (rs : List Reply) (r : Reply) → session ≡ 1 → Adds old new session r → OwnEntriesAre old 1 rs → Grown old new (rs ++ r ∷ [])
-grown old new session rs r is (inl same) are = record {
+grown : (old new : List Entry) (session : ℕ) (r : Reply) → 1 ≤ session → session ≤ 8 → Adds old new session r → Grown old new session
+grown old new session r first last (inl same) = record {
   more = [];
   split = same.0 ∙ sym (append-nil old);
   entries = λ all. subst (AllByRecursion IsSessionEntry) (sym same.0) all;
-  own = subst (λ (h : List Entry). OwnEntriesAre h 1 (rs ++ r ∷ [])) (sym same.0) (OwnEntriesAre-none old rs r are same.1);
+  others = λ t other. tt;
 }
-grown old new session rs r is (inr added) are = record {
+grown old new session r first last (inr added) = record {
   more = added.0 ∷ [];
   split = added.1;
   entries = λ all. subst (AllByRecursion IsSessionEntry) (sym added.1)
-      (all-push IsSessionEntry old added.0 all (record { who = added.2 ∙ is; open_entry = added.3 }));
-  own = subst (λ (h : List Entry). OwnEntriesAre h 1 (rs ++ r ∷ [])) (sym added.1) (OwnEntriesAre-some old rs r added.0 are (added.2 ∙ is) added.4);
+      (all-push IsSessionEntry old added.0 all (record { first = omega (arith, first, added.2); last = omega (arith, last, added.2); open_entry = added.3 }));
+  others = λ t other. ((λ same. other (sym same ∙ added.2)), tt);
 }
 
-pub HasPlayed-none : (document : Document) → document.history ≡ [] → HasPlayed document [] []
-HasPlayed-none document empty = record {
-  entries = subst (AllByRecursion IsSessionEntry) (sym empty) tt;
-  right = tt;
-  own = subst (λ (h : List Entry). OwnEntriesAre h 1 []) (sym empty) refl;
-  seen = tt;
-}
+own_after : (old new : List Entry) (session : ℕ) (rs : List Reply) (r : Reply) → Adds old new session r → OwnEntriesAre old session rs → OwnEntriesAre new session (rs ++ r ∷ [])
+own_after old new session rs r (inl same) are = subst (λ (h : List Entry). OwnEntriesAre h session (rs ++ r ∷ [])) (sym same.0) (OwnEntriesAre-none old session rs r are same.1)
+own_after old new session rs r (inr added) are = subst (λ (h : List Entry). OwnEntriesAre h session (rs ++ r ∷ [])) (sym added.1) (OwnEntriesAre-some old session rs r added.0 are added.2 added.4)
 
-pub HasPlayed-push : (old new : Document) (ls : List Line) (rs : List Reply) (l : Line) (r : Reply)
-    → HasPlayed old ls rs → l.session ≡ 1 → PlaysLine old new l r → HasPlayed new (ls ++ l ∷ []) (rs ++ r ∷ [])
-HasPlayed-push old new ls rs l r played session plays =
-    let g : Grown old.history new.history (rs ++ r ∷ []) = grown old.history new.history l.session rs r session plays.adds played.own in
-    let longer : length old.history ≤ length new.history = omega (arith, length-append old.history g.more, ap length g.split) in
-    let before : AreRightReplies new.history new.budget 1 0 ls rs =
-    subst (λ (h : List Entry). AreRightReplies h new.budget 1 0 ls rs) (sym g.split)
-    (subst (λ (b : ℕ). AreRightReplies (old.history ++ g.more) b 1 0 ls rs) (sym plays.budget)
-    (AreRightReplies-append old.history g.more old.budget 1 0 ls rs played.right)) in
-    let this : IsRightReply new.history new.budget 1 l r = subst (λ (who : ℕ). IsRightReply new.history new.budget who l r) session plays.right in
+session_lines-this : (ls : List Line) (l : Line) → session_lines l.session (ls ++ l ∷ []) ≡ session_lines l.session ls ++ l ∷ []
+session_lines-this ls l =
+    let same : (l.session == l.session) ≡ true = eq-eqb l.session l.session refl in
+    filter-append _ ls (l ∷ []) ∙ ap (λ b. session_lines l.session ls ++ cond b (l ∷ []) []) same
+
+session_lines-other : (ls : List Line) (l : Line) (t : ℕ) → t ≢ l.session → session_lines t (ls ++ l ∷ []) ≡ session_lines t ls
+session_lines-other ls l t other =
+    let differ : (l.session == t) ≡ false = ne_eqb l.session t (λ same. other (sym same)) in
+    filter-append _ ls (l ∷ []) ∙ ap (λ b. session_lines t ls ++ cond b (l ∷ []) []) differ ∙ append-nil (session_lines t ls)
+
+longer : (old new : List Entry) (session : ℕ) → Grown old new session → length old ≤ length new
+longer old new session g = omega (arith, length-append old g.more, ap length g.split)
+
+-- right replies stay right
+right_after : (old new : Document) (session : ℕ) → (g : Grown old.history new.history session) → new.budget ≡ old.budget → (t : ℕ) (ls : List Line) (rs : List Reply)
+    → AreRightReplies old.history old.budget t 0 ls rs → AreRightReplies new.history new.budget t 0 ls rs
+right_after old new session g budget t ls rs are =
+    subst (λ (h : List Entry). AreRightReplies h new.budget t 0 ls rs) (sym g.split)
+    (subst (λ (b : ℕ). AreRightReplies (old.history ++ g.more) b t 0 ls rs) (sym budget)
+    (AreRightReplies-append old.history g.more old.budget t 0 ls rs are))
+
+-- a session of which the line isn't
+HasReplies-other : (old new : Document) (ls : List Line) (l : Line) (t : ℕ) (rs : List Reply) → Grown old.history new.history l.session → new.budget ≡ old.budget → t ≢ l.session
+    → HasReplies old ls t rs → HasReplies new (ls ++ l ∷ []) t rs
+HasReplies-other old new ls l t rs g budget other has =
+    let grows = longer old.history new.history l.session g in
     record {
-      entries = g.entries played.entries;
-      right = AreRightReplies-push new.history new.budget 1 0 ls rs l r before this (omega arith)
-          (all-then (λ (x : Reply). after_of x ≤ length old.history) (λ (x : Reply). after_of x ≤ from_of r) rs (λ x le. subst (λ (n : ℕ). after_of x ≤ n) (sym plays.from) le) played.seen);
-      own = g.own;
+      right = subst (λ (ms : List Line). AreRightReplies new.history new.budget t 0 ms rs) (sym (session_lines-other ls l t other))
+          (right_after old new l.session g budget t (session_lines t ls) rs has.right);
+      own = subst (λ (h : List Entry). OwnEntriesAre h t rs) (sym g.split) (OwnEntriesAre-append old.history g.more t rs (g.others t other) has.own);
+      seen = all-then (λ (x : Reply). after_of x ≤ length old.history) (λ (x : Reply). after_of x ≤ length new.history) rs (λ x le. omega (arith, grows, le)) has.seen;
+    }
+
+-- the session of the line
+HasReplies-this : (old new : Document) (ls : List Line) (l : Line) (r : Reply) (rs : List Reply) → Grown old.history new.history l.session → PlaysLine old new l r
+    → HasReplies old ls l.session rs → HasReplies new (ls ++ l ∷ []) l.session (rs ++ r ∷ [])
+HasReplies-this old new ls l r rs g plays has =
+    let grows = longer old.history new.history l.session g in
+    record {
+      right = subst (λ (ms : List Line). AreRightReplies new.history new.budget l.session 0 ms (rs ++ r ∷ [])) (sym (session_lines-this ls l))
+          (AreRightReplies-push new.history new.budget l.session 0 (session_lines l.session ls) rs l r
+          (right_after old new l.session g plays.budget l.session (session_lines l.session ls) rs has.right) plays.right (omega arith)
+          (all-then (λ (x : Reply). after_of x ≤ length old.history) (λ (x : Reply). after_of x ≤ from_of r) rs (λ x le. subst (λ (n : ℕ). after_of x ≤ n) (sym plays.from) le) has.seen));
+      own = own_after old.history new.history l.session rs r plays.adds has.own;
       seen = all-push (λ (x : Reply). after_of x ≤ length new.history) rs r
-          (all-then (λ (x : Reply). after_of x ≤ length old.history) (λ (x : Reply). after_of x ≤ length new.history) rs (λ x le. omega arith) played.seen)
+          (all-then (λ (x : Reply). after_of x ≤ length old.history) (λ (x : Reply). after_of x ≤ length new.history) rs (λ x le. omega (arith, grows, le)) has.seen)
           (omega (arith, plays.after));
     }
 
+-- ---- all sessions
+
+pub ForSessions-then : (P Q : ℕ → List Reply → Type 0) (n : ℕ) (lists : List (List Reply)) → ((t : ℕ) (rs : List Reply) → n ≤ t → P t rs → Q t rs) → ForSessions n P lists → ForSessions n Q lists
+ForSessions-then P Q n [] step all = tt
+ForSessions-then P Q n (rs ∷ more) step all = (step n rs (omega arith) all.0, ForSessions-then P Q (n + 1) more (λ t xs le p. step t xs (omega (arith, le)) p) all.1)
+
+-- one list is replaced
+ForSessions-set : (P Q : ℕ → List Reply → Type 0) (s n i : ℕ) (lists : List (List Reply)) (new : List Reply) → s ≡ n + i
+    → ((t : ℕ) (rs : List Reply) → t ≢ s → P t rs → Q t rs) → (P s (get_or lists i []) → Q s new) → i < length lists
+    → ForSessions n P lists → ForSessions n Q (slice_set lists i new)
+ForSessions-set P Q s n i [] new at others this within all = absurd (omega arith)
+ForSessions-set P Q s n zero (rs ∷ more) new at others this within all =
+    let same : n ≡ s = omega arith in
+    (subst (λ t. Q t new) (sym same) (this (subst (λ t. P t rs) same all.0)), ForSessions-then P Q (n + 1) more (λ t xs le p. others t xs (λ e. absurd (omega (arith, e, le, same))) p) all.1)
+ForSessions-set P Q s n (suc i) (rs ∷ more) new at others this within all =
+    (others n rs (λ e. absurd (omega (arith, e, at))) all.0, ForSessions-set P Q s (n + 1) i more new (omega arith) others this (omega arith) all.1)
+
+-- sessions without replies
+ForSessions-empty : (P : ℕ → List Reply → Type 0) (n s : ℕ) → ((t : ℕ) → s ≤ t → P t []) → ForSessions s P (replicate n [])
+ForSessions-empty P zero s each = tt
+ForSessions-empty P (suc n) s each = (each s (omega arith), ForSessions-empty P n (s + 1) (λ t le. each t (omega (arith, le))))
+
+length-slice_set : {A : Type 0} (xs : List A) (i : ℕ) (x : A) → length (slice_set xs i x) ≡ length xs
+length-slice_set [] i x = refl
+length-slice_set (y ∷ ys) zero x = refl
+length-slice_set (y ∷ ys) (suc i) x = ap suc (length-slice_set ys i x)
+
+pub HasPlayed-none : (document : Document) → document.history ≡ [] → (lists : List (List Reply)) → lists ≡ replicate 8 [] → HasPlayed document [] lists
+HasPlayed-none document empty lists are = subst (HasPlayed document []) (sym are) (record {
+  entries = subst (AllByRecursion IsSessionEntry) (sym empty) tt;
+  eight = refl;
+  each = ForSessions-empty (HasReplies document []) 8 1 (λ t le. record { right = tt; own = subst (λ (h : List Entry). OwnEntriesAre h t []) (sym empty) refl; seen = tt });
+})
+
+pub HasPlayed-push : (old new : Document) (ls : List Line) (lists : List (List Reply)) (l : Line) (r : Reply)
+    → HasPlayed old ls lists → IsSessionLine l → PlaysLine old new l r → HasPlayed new (ls ++ l ∷ []) (with_reply lists l.session r)
+HasPlayed-push old new ls lists l r played session plays =
+    let g : Grown old.history new.history l.session = grown old.history new.history l.session r session.0 session.1 plays.adds in
+    record {
+      entries = g.entries played.entries;
+      eight = length-slice_set lists (l.session - 1) _ ∙ played.eight;
+      each = ForSessions-set (HasReplies old ls) (HasReplies new (ls ++ l ∷ [])) l.session 1 (l.session - 1) lists _ (omega (arith, session.0))
+          (λ t rs other has. HasReplies-other old new ls l t rs g plays.budget other has)
+          (λ has. HasReplies-this old new ls l r _ g plays has)
+          (omega (arith, session.0, session.1, played.eight)) played.each;
+    }
+
+-- the session of the line at this place
+pub session_at : (lines : List Line) (i : ℕ) (l : Line) → AllByRecursion IsSessionLine lines → i < length lines → l ≡ get_or lines i l → IsSessionLine l
+session_at lines i l sessions within at = subst IsSessionLine (sym at) (all-at IsSessionLine lines i l sessions within)
+
 -- the line at this place was played after those before it
-pub HasPlayed-more : (old new : Document) (lines : List Line) (i : ℕ) (before after : List Reply) (l : Line)
-    → HasPlayed old (take i lines) before → AllByRecursion (λ (x : Line). x.session ≡ 1) lines → i < length lines → l ≡ get_or lines i l
-    → ((r : Reply) × PlaysLine old new l r × (after ≡ before ++ r ∷ [])) → HasPlayed new (take (i + 1) lines) after
+pub HasPlayed-more : (old new : Document) (lines : List Line) (i : ℕ) (before after : List (List Reply)) (l : Line)
+    → HasPlayed old (take i lines) before → AllByRecursion IsSessionLine lines → i < length lines → l ≡ get_or lines i l
+    → ((r : Reply) × PlaysLine old new l r × (after ≡ with_reply before l.session r)) → HasPlayed new (take (i + 1) lines) after
 HasPlayed-more old new lines i before after l played sessions within at plays =
-    let session : l.session ≡ 1 = ap (λ (x : Line). x.session) at ∙ all-at (λ (x : Line). x.session ≡ 1) lines i l sessions within in
+    let session = session_at lines i l sessions within at in
     let front : take (i + 1) lines ≡ take i lines ++ l ∷ [] = take_more lines i l within ∙ ap (λ (x : Line). take i lines ++ x ∷ []) (sym at) in
     subst (λ (ls : List Line). HasPlayed new ls after) (sym front)
-    (subst (λ (rs : List Reply). HasPlayed new (take i lines ++ l ∷ []) rs) (sym plays.2)
+    (subst (λ (rs : List (List Reply)). HasPlayed new (take i lines ++ l ∷ []) rs) (sym plays.2)
     (HasPlayed-push old new (take i lines) before l plays.0 played session plays.1))

@@ -1,5 +1,5 @@
--- A script that is being played by one session after the other, line by line.
-use Rattle.std.specs.Prelude.{◌≡◌, ◌⊎◌, ℕ, ◌≤◌, List, [], ◌∷◌, ◌++◌, length, false, Option, Some, None}
+-- A script that is being played, line by line, each for its session.
+use Rattle.std.specs.Prelude.{◌≡◌, ◌⊎◌, ℕ, ◌-◌, ◌≤◌, List, [], ◌∷◌, ◌++◌, length, slice_index_or, slice_set, false, Option, Some, None}
 use Rattle.std.specs.List.{AllByRecursion}
 use Rattle.script_text.specs.declared.scripts.Line.{Line}
 use Rattle.doc_book.specs.declared.entries.Entry.{Entry}
@@ -7,7 +7,9 @@ use Rattle.doc_book.specs.declared.replies.Reply.{Reply}
 use Rattle.doc_book.specs.declared.replies.Reply.TheVariants as reply
 use Rattle.doc_book.specs.Document.{Document}
 use Rattle.doc_book.specs.History.{is_end}
+use Rattle.doc_book.specs.Listing.{session_lines}
 use Rattle.doc_book.specs.Replies.{IsRightReply, AreRightReplies, OwnEntriesAre, after_of, from_of}
+use Rattle.editor_run.specs.Played.{ForSessions}
 
 -- the place of the entry that a reply names, if it names one
 abbrev pub made_place : Reply → Option ℕ
@@ -31,14 +33,29 @@ pub record PlaysLine (old new : Document) (line : Line) (reply : Reply) : Type 0
   pub after : after_of reply ≡ length new.history
   pub adds : Adds old.history new.history line.session reply
 
--- an entry of session 1 that isn't End
+-- a line of a session 1 to 8
+abbrev pub IsSessionLine : Line → Type 0
+IsSessionLine l = (1 ≤ l.session) × (l.session ≤ 8)
+
+-- an entry of a session 1 to 8 that isn't End
 pub record IsSessionEntry (e : Entry) : Type 0 where
-  pub who : e.who ≡ 1
+  pub first : 1 ≤ e.who
+  pub last : e.who ≤ 8
   pub open_entry : is_end e ≡ false
 
--- lines of session 1 were played from the empty history on
-pub record HasPlayed (document : Document) (lines : List Line) (replies : List Reply) : Type 0 where
-  pub entries : AllByRecursion IsSessionEntry document.history
-  pub right : AreRightReplies document.history document.budget 1 0 lines replies
-  pub own : OwnEntriesAre document.history 1 replies
+-- the lists of replies with one reply more for a session
+abbrev pub with_reply : List (List Reply) → ℕ → Reply → List (List Reply)
+with_reply lists session reply = slice_set lists (session - 1) (slice_index_or lists (session - 1) [] ++ reply ∷ [])
+
+-- the replies to a session's lines, among lines that were played: they are right, name its entries, and none was
+-- given after the history as it stands
+pub record HasReplies (document : Document) (lines : List Line) (session : ℕ) (replies : List Reply) : Type 0 where
+  pub right : AreRightReplies document.history document.budget session 0 (session_lines session lines) replies
+  pub own : OwnEntriesAre document.history session replies
   pub seen : AllByRecursion (λ r. after_of r ≤ length document.history) replies
+
+-- lines were played from the empty history on, each for its session; there is a list of replies for each session
+pub record HasPlayed (document : Document) (lines : List Line) (lists : List (List Reply)) : Type 0 where
+  pub entries : AllByRecursion IsSessionEntry document.history
+  pub eight : length lists ≡ 8
+  pub each : ForSessions 1 (HasReplies document lines) lists

@@ -1,9 +1,8 @@
 //! Playing the lines of a script.
-ghost use Rattle.std.specs.Prelude.{◌≡◌, [], ◌∷◌, ◌++◌, IfOk, OnOk};
+ghost use Rattle.std.specs.Prelude.{◌≡◌, ◌≤◌, [], ◌∷◌, ◌++◌, length, replicate, IfOk, OnOk};
 ghost use Rattle.std.specs.List.{AllByRecursion};
-ghost use Rattle.script_text.specs.declared.scripts.Line.{Line as LineValue};
 ghost use Rattle.doc_book.specs.declared.replies.Reply.{Reply as ReplyValue};
-ghost use Rattle.editor_run.specs.Progress.{PlaysLine, HasPlayed};
+ghost use Rattle.editor_run.specs.Progress.{PlaysLine, HasPlayed, IsSessionLine, with_reply};
 
 use doc_book::{Book, Laid, Refused, Reply};
 use edit_rules::Refusal;
@@ -43,16 +42,52 @@ pub fn play_line(
     }
 }
 
-/// Plays the lines of session 1 in order, from the empty history on, and gives their replies.
-pub fn play_lines(alloc: Global, book: &mut Book, lines: &[Line]) -> Result<Sequence<Reply>, Memory>
+/// Plays one line, and adds its reply to those of its session.
+fn play_next(
+    alloc: Global,
+    book: &mut Book,
+    line: &Line,
+    lists: &mut Vec<Sequence<Reply>>,
+) -> Result<(), Memory>
+    requires first { 1 ≤ line.now.session }
+    requires last { line.now.session ≤ length lists.old.items }
+    ensures { OnOk result ((reply : ReplyValue) × PlaysLine book.old book.new line.now reply
+        × (lists.new.items ≡ with_reply lists.old.items line.now.session reply)) }
+{
+    play_line(
+        alloc,
+        book,
+        line,
+        &mut lists[usize::from(line.session) - 1],
+    )
+}
+
+/// Plays the lines in order, each for its session, from the empty history on, and gives the replies of each of the
+/// eight sessions.
+pub fn play_lines(
+    alloc: Global,
+    book: &mut Book,
+    lines: &[Line],
+) -> Result<Vec<Sequence<Reply>>, Memory>
     requires empty { book.old.history ≡ [] }
-    requires session { AllByRecursion (λ (l : LineValue). l.session ≡ 1) lines.now }
-    ensures played { IfOk result (λ replies. HasPlayed book.new lines.now replies) }
+    requires sessions { AllByRecursion IsSessionLine lines.now }
+    ensures played { IfOk result (λ lists. HasPlayed book.new lines.now lists.items) }
     ensures budget { OnOk result (book.new.budget ≡ book.old.budget) }
 {
-    let mut replies = Sequence::new(alloc);
+    let mut lists = no_replies(alloc)?;
     for line in lines {
-        play_line(alloc, book, line, &mut replies)?;
+        play_next(alloc, book, line, &mut lists)?;
     }
-    Ok(replies)
+    Ok(lists)
+}
+
+/// Eight lists without replies, one a session.
+fn no_replies(alloc: Global) -> Result<Vec<Sequence<Reply>>, Memory>
+    ensures { IfOk result (λ lists. lists.items ≡ replicate 8 []) }
+{
+    let mut lists = Vec::new(alloc);
+    for _ in 0..8u8 {
+        lists.push(Sequence::new(alloc))?;
+    }
+    Ok(lists)
 }

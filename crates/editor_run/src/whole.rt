@@ -1,5 +1,5 @@
 //! Playing a script to the end of its document.
-ghost use Rattle.std.specs.Prelude.{◌≡◌, ◌≤◌, None, [], ◌∷◌, ◌++◌, replicate, IfOk, OnOk};
+ghost use Rattle.std.specs.Prelude.{◌≡◌, ◌≤◌, None, [], ◌∷◌, ◌++◌, IfOk, OnOk};
 ghost use Rattle.doc_book.specs.declared.entries.Act.TheVariants as act;
 ghost use Rattle.doc_book.specs.Growing.{entry_of};
 ghost use Rattle.doc_book.specs.History.{end_place};
@@ -28,12 +28,14 @@ pub fn play_whole(alloc: Global, frames: u32, script: &Script) -> Result<Played,
     ensures callers { IfOk result (λ p. AreCallers p.book.history p.replies) }
 {
     let mut book = Book::new(alloc, frames);
-    let replies = play_lines(alloc, &mut book, script.lines())?;
+    let lists = play_lines(alloc, &mut book, script.lines())?;
     end(&mut book)?;
     finish_all(alloc, &mut book)?;
     let _legal = book.history();
-    let replies = by_session(alloc, replies)?;
-    Ok(Played { book, replies })
+    Ok(Played {
+        book,
+        replies: Sequence::of(lists),
+    })
 }
 
 /// Ends the document, which wasn't ended.
@@ -45,16 +47,4 @@ fn end(book: &mut Book) -> Result<(), Memory>
         Ok(_) => Ok(()),
         Err(_) => Err(Memory),
     }
-}
-
-/// The replies of session 1, and those of seven sessions without lines.
-fn by_session(alloc: Global, replies: Sequence<Reply>) -> Result<Sequence<Sequence<Reply>>, Memory>
-    ensures { IfOk result (λ lists. lists ≡ replies ∷ replicate 7 []) }
-{
-    let mut lists = Sequence::new(alloc);
-    lists.push(replies)?;
-    for _ in 0..7u8 {
-        lists.push(Sequence::new(alloc))?;
-    }
-    Ok(lists)
 }
