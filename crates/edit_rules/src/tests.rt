@@ -75,7 +75,10 @@ fn numbers_have_ranges(rt: HostRuntime) -> Result<(), Fail> {
         (0, 0, 1, 10_001, 10_001),
     ] {
         let refusal = play(&mut scene, put(name, x, y, w, h))?;
-        assert!(rt; refusal == Some(Refusal::Range { value }), "{x} {y} {w} {h}");
+        assert!(rt;
+            refusal == Some(Refusal::Range { value }),
+            "{x} {y} {w} {h}"
+        );
     }
     // An edit that is refused isn't applied.
     assert_eq!(rt; scene.count(Sort::Shape), 0);
