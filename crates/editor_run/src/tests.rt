@@ -18,12 +18,20 @@ fn said(alloc: Global, outcome: &Outcome) -> Result<String, Fail> {
     Ok(format!(in alloc; "{} {fault}", outcome.status)?)
 }
 
+// Session 2 puts and lays out, then session 1 finds nothing left to do: its layout comes last, so it sees all.
+const TWO_SESSIONS: &[u8] =
+    b"dunnart 1\n1 box a 0 0 10 10\n2 box b 20 0 10 10\n2 layout\n1 layout\nend\n";
+
+const TWO_SESSIONS_LISTING: &[u8] =
+    b"listing 1\n0 1 2 box a 0 0 10 10\n1 2 3 box b 20 0 10 10\n2 2 4 frame\nx a 0 0\nx b 20 20\ny a 0 0\ny b 0 0\n3 0 0 end\n4 0 0 frame\nx a 0 0\nx b 20 20\ny a 0 0\ny b 0 0\nreplies\n1 2 box a 0 0 10 10 = accepted 0\n1 5 layout = idle 3\n2 3 box b 20 0 10 10 = accepted 1\n2 4 layout = published 2\ndone\n";
+
 #[test]
 fn worked_scripts(rt: HostRuntime) -> Result<(), Fail> {
     let alloc = rt.alloc();
     for (script, listing) in [
         (FIRST_BOX, FIRST_BOX_LISTING),
         (b"dunnart 1\nend\n".as_slice(), EMPTY_LISTING),
+        (TWO_SESSIONS, TWO_SESSIONS_LISTING),
     ] {
         let mut source = SureSource::new(script.to_vec(alloc)?);
         let mut sink = SureSink::new(alloc);

@@ -60,7 +60,7 @@ line_again k l lt h plain =
     let short : ltb 2048 (length ((48 + l.session) ∷ 32 ∷ spaced (command_words l.command))) ≡ false = le-ltb _ _ (subst (λ (v : List ℕ). length v ≤ 2048) e h.short) in
     let few : leb 2000 k ≡ false = lt-leb _ _ lt in
     let low : leb 49 (48 + l.session) ≡ true = le-leb _ _ (omega (arith, h.session.0)) in
-    let high : leb (48 + l.session) 49 ≡ true = le-leb _ _ (omega (arith, h.session.1)) in
+    let high : leb (48 + l.session) 56 ≡ true = le-leb _ _ (omega (arith, h.session.1)) in
     let words : pieces 32 (spaced (command_words l.command)) ≡ command_words l.command = split_join 32 (command_word l.command) (fields_words (command_fields l.command)) refl plain.is.0 plain.is.1 in
     let s : 48 + l.session - 48 ≡ l.session = omega arith in
     rw (e, short, few, low, high, words, command_again l.command h.command, s) refl
@@ -101,7 +101,7 @@ line_sound k line l e number =
     let s = and_parts _ _ p.session in
     let s2 = and_parts _ _ s.0 in
     let low : 49 ≤ get_or line 0 0 = leb-true _ _ s2.0 in
-    let high : get_or line 0 0 ≤ 49 = leb-true _ _ s2.1 in
+    let high : get_or line 0 0 ≤ 56 = leb-true _ _ s2.1 in
     let is : l.session + 48 ≡ get_or line 0 0 = omega (arith, w.1) in
     let joined : spaced (command_words l.command) ≡ drop 2 line = rw (← c.0) (join_with_byte-slice_split 32 (drop 2 line)) in
     let first : 48 + l.session ≡ get_or line 0 0 = omega arith in

@@ -13,7 +13,7 @@ use Rattle.script_text.specs.declared.faults.ReadFault.TheVariants as cause
 
 -- sessions are numbered from 1 up to this one
 abbrev pub last_session : ℕ
-last_session = 1
+last_session = 8
 
 -- the text of a line, without its LF: the session and the words of the command, divided by one space
 abbrev pub line_text : Line → List ℕ

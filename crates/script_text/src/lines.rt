@@ -15,7 +15,7 @@ const LONGEST: usize = 2048;
 const MOST_LINES: usize = 2000;
 
 /// The digit of the last session.
-const LAST_SESSION: u8 = b'1';
+const LAST_SESSION: u8 = b'8';
 
 /// The command line behind `before` others.
 pub fn line(before: usize, bytes: &[u8]) -> Result<Line, FaultKind>

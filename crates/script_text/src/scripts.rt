@@ -19,13 +19,13 @@ pub enum Command {
 pub struct Line {
     /// The number of the line in the script: the first command line has number 2.
     pub number: u32,
-    /// The session that plays the line: 1.
+    /// The session that plays the line: 1 to 8.
     pub session: u8,
     pub command: Command,
 }
 
 /// A script: its command lines, in order. Its type keeps that it is one: at most 2,000 lines, numbered 2, 3 and
-/// so on without a gap, of session 1, with names that are names, numbers of at most 9 digits, and texts of at
+/// so on without a gap, of sessions 1 to 8, with names that are names, numbers of at most 9 digits, and texts of at
 /// most 2,048 bytes. Contracts see the list of lines.
 #[derive(Drop)]
 pub struct Script {
