@@ -1,14 +1,12 @@
 -- The refusals of a diagram, in their order (which is this project's own).
-use Rattle.std.specs.Prelude.{ℕ, List, [], ◌∷◌, Bool, nat_le, if◌then◌else◌, Option, Some, None, find}
+use Rattle.std.specs.Prelude.{List, [], ◌∷◌, nat_le, if◌then◌else◌, Option, Some, None, find}
 use Rattle.std.specs.Option.{option_map}
-use Rattle.scene_model.specs.declared.items.Sort.{Sort}
 use Rattle.scene_model.specs.declared.items.Sort.TheVariants as sort
 use Rattle.scene_model.specs.Names.{NameOf}
 use Rattle.scene_model.specs.Diagram.{Diagram, most_shapes}
 use Rattle.scene_model.specs.Items.{stands, count_of}
 use Rattle.edit_rules.specs.declared.edits.Edit.{Edit}
 use Rattle.edit_rules.specs.declared.edits.Edit.TheVariants as edit
-use Rattle.edit_rules.specs.declared.refusals.Counted.{Counted}
 use Rattle.edit_rules.specs.declared.refusals.Counted.TheVariants as counted
 use Rattle.edit_rules.specs.declared.refusals.Refusal.{Refusal}
 use Rattle.edit_rules.specs.declared.refusals.Refusal.TheVariants as refusal
