@@ -43,6 +43,10 @@ OnSuccess outcome P = outcome.status ≡ 0 → WhereRun outcome P
 abbrev pub IsWhole : Outcome → Type 0
 IsWhole outcome = (outcome.status ≡ 0) ⊎ (outcome.status ≡ 6) → IsSome outcome.book × IsSome outcome.script
 
+-- on every other status the outcome has no document, no script and no replies
+abbrev pub IsBare : Outcome → Type 0
+IsBare outcome = ((outcome.status ≡ 0) ⊎ (outcome.status ≡ 6)) ⊎ ((outcome.book ≡ None) × (outcome.script ≡ None) × (outcome.replies ≡ []))
+
 -- what a run without a script comes to
 abbrev pub failure : Fault → Outcome
 failure f = record { status = status_of f; fault = Some f; book = None; script = None; replies = [] }

@@ -23,6 +23,7 @@ pub fn input<S: Source>(alloc: Global, source: &mut S) -> Result<Script, Fault>
     ensures end { OnOk result (IsAtEnd (S.left source.new)) }
     ensures none_spelled { (f : FaultValue) → result ≡ Err (fault.Script f) → SpellsNone (S.left source.old) × IsAtEnd (S.left source.new) }
     ensures source_failed { result ≡ Err fault.Source → HasRisen (S.faults source.old) (S.faults source.new) }
+    ensures source_calm { (result ≡ Err fault.Source) ⊎ (S.faults source.new ≡ S.faults source.old) }
     ensures too_long { result ≡ Err fault.Long → GivesPast 1048576 (S.left source.old) (S.left source.new) (S.given source.old) (S.given source.new) }
     ensures within { (result ≡ Err fault.Long) ⊎ GivesWithin 1048576 (S.left source.old) (S.left source.new) (S.given source.old) (S.given source.new) }
     ensures complete { ¬ HasRisen (S.faults source.old) (S.faults source.new)

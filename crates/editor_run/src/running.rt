@@ -9,8 +9,8 @@ ghost use Rattle.script_text.specs.declared.scripts.Line.{Line as LineValue};
 ghost use Rattle.script_text.specs.Scripts.{Spells};
 ghost use Rattle.doc_book.specs.Listing.{listing_text};
 ghost use Rattle.editor_run.specs.Input.{SpelledBy, SpellsNone};
-ghost use Rattle.editor_run.specs.Outcomes.{HasStatus, IsWhole, WritesNothing, WhereRun, OnSuccess, failure, ran, status_of};
-ghost use Rattle.editor_run.specs.Played.{IsRightHistory, AreOwnEntries, HaveRightReplies, AreCallers};
+ghost use Rattle.editor_run.specs.Outcomes.{HasStatus, IsBare, IsWhole, WritesNothing, WhereRun, OnSuccess, failure, ran, status_of};
+ghost use Rattle.editor_run.specs.Played.{IsRightHistory, AreOwnEntries, HaveRightReplies, AreCallers, PutsPart};
 ghost use Rattle.editor_run.specs.declared.outcome.Fault.TheVariants as fault;
 
 use crate::input::input;
@@ -78,11 +78,12 @@ fn status_of(fault: Fault) -> u8
 }
 
 /// Reads the script that the source gives, plays its lines in order, ends the document, finishes it, and writes the
-/// listing. It waits for nobody and always returns.
+/// listing. It waits for nobody and always returns. The plan is one that it serves: at most 512 frames, no workers, no
+/// picture and no made script, which its fields show.
 ///
 /// Statuses: 0 on success; 3 where the bytes spell no script; 4 where a read failed; 5 for want of memory; 6 where a
 /// write failed, with a front part of the listing written; 7 where the source gave more than 1,048,576 bytes. On 3, 4
-/// and 7 nothing is written.
+/// and 7 nothing is written, on 5 nothing or a front part of the listing.
 pub fn run_alone<R: AllocGlobal, S: Source, K: Sink>(
     rt: &R,
     plan: Plan,
@@ -96,6 +97,7 @@ pub fn run_alone<R: AllocGlobal, S: Source, K: Sink>(
 
     // What a run is, on status 0 and where the sink failed.
     ensures whole { IsWhole result }
+    ensures bare { IsBare result }
     ensures input { WhereRun result (λ script _ _. SpelledBy (S.left source.old) script × IsAtEnd (S.left source.new)) }
     ensures history { WhereRun result (λ _ document _. IsRightHistory plan.frames document) }
     ensures own_entries { WhereRun result (λ _ document replies. AreOwnEntries document replies) }
@@ -108,11 +110,14 @@ pub fn run_alone<R: AllocGlobal, S: Source, K: Sink>(
     ensures no_words { result.fault ≡ Some fault.Words → ⊥ }
     ensures no_script { (f : FaultValue) → result.fault ≡ Some (fault.Script f) → SpellsNone (S.left source.old) × IsAtEnd (S.left source.new) }
     ensures source_failed { result.fault ≡ Some fault.Source → HasRisen (S.faults source.old) (S.faults source.new) }
+    ensures source_calm { (result.fault ≡ Some fault.Source) ⊎ (S.faults source.new ≡ S.faults source.old) }
     ensures too_long { result.fault ≡ Some fault.Long → GivesPast 1048576 (S.left source.old) (S.left source.new) (S.given source.old) (S.given source.new) }
     ensures within { (result.fault ≡ Some fault.Long) ⊎ GivesWithin 1048576 (S.left source.old) (S.left source.new) (S.given source.old) (S.given source.new) }
     ensures sink_failed { result.fault ≡ Some fault.Sink → HasRisen (K.faults sink.old) (K.faults sink.new) }
+    ensures sink_calm { (result.fault ≡ Some fault.Sink) ⊎ (K.faults sink.new ≡ K.faults sink.old) }
     ensures part { result.fault ≡ Some fault.Sink → WhereRun result (λ script document replies. TakesPart (K.put sink.old) (K.put sink.new) (listing_text script document.history replies)) }
     ensures nothing_written { WritesNothing result → sink.new ≡ sink.old }
+    ensures no_memory { result.fault ≡ Some fault.Memory → (sink.new ≡ sink.old) ⊎ PutsPart (SpelledBy (S.left source.old)) plan.frames (K.put sink.old) (K.put sink.new) }
 
     // Where no read and no write failed and a script within the length is spelled, the run succeeds or lacks memory.
     ensures complete { ¬ HasRisen (S.faults source.old) (S.faults source.new) → ¬ HasRisen (K.faults sink.old) (K.faults sink.new)
@@ -150,6 +155,7 @@ pub fn run<R: AllocGlobal, S: Source, K: Sink>(
 ) -> Outcome
     // What a run is, on status 0 and where the sink failed.
     ensures whole { IsWhole result }
+    ensures bare { IsBare result }
     ensures input { WhereRun result (λ script _ _. SpelledBy (S.left source.old) script × IsAtEnd (S.left source.new)) }
     ensures history { WhereRun result (λ _ document _. IsRightHistory 64 document) }
     ensures own_entries { WhereRun result (λ _ document replies. AreOwnEntries document replies) }
@@ -163,12 +169,15 @@ pub fn run<R: AllocGlobal, S: Source, K: Sink>(
     ensures unread { result.fault ≡ Some fault.Words → source.new ≡ source.old }
     ensures no_script { (f : FaultValue) → result.fault ≡ Some (fault.Script f) → SpellsNone (S.left source.old) × IsAtEnd (S.left source.new) }
     ensures source_failed { result.fault ≡ Some fault.Source → HasRisen (S.faults source.old) (S.faults source.new) }
+    ensures source_calm { (result.fault ≡ Some fault.Source) ⊎ (S.faults source.new ≡ S.faults source.old) }
     ensures too_long { result.fault ≡ Some fault.Long → GivesPast 1048576 (S.left source.old) (S.left source.new) (S.given source.old) (S.given source.new) }
     ensures within { (result.fault ≡ Some fault.Words) ⊎ (result.fault ≡ Some fault.Long)
         ⊎ GivesWithin 1048576 (S.left source.old) (S.left source.new) (S.given source.old) (S.given source.new) }
     ensures sink_failed { result.fault ≡ Some fault.Sink → HasRisen (K.faults sink.old) (K.faults sink.new) }
+    ensures sink_calm { (result.fault ≡ Some fault.Sink) ⊎ (K.faults sink.new ≡ K.faults sink.old) }
     ensures part { result.fault ≡ Some fault.Sink → WhereRun result (λ script document replies. TakesPart (K.put sink.old) (K.put sink.new) (listing_text script document.history replies)) }
     ensures nothing_written { WritesNothing result → sink.new ≡ sink.old }
+    ensures no_memory { result.fault ≡ Some fault.Memory → (sink.new ≡ sink.old) ⊎ PutsPart (SpelledBy (S.left source.old)) 64 (K.put sink.old) (K.put sink.new) }
 
     // Where no read and no write failed and a script within the length is spelled, the run succeeds or lacks memory.
     ensures complete { vec_len words ≤ 1 → ¬ HasRisen (S.faults source.old) (S.faults source.new) → ¬ HasRisen (K.faults sink.old) (K.faults sink.new)
