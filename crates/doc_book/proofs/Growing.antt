@@ -1,15 +1,12 @@
 -- A history with one more entry: its scene, its places, its End, its counts.
-use Rattle.std.proofs.Common.{◌≡◌, ◌+◌, ◌<◌, ◌≤◌, ℕ, List, [], ◌∷◌, ◌++◌, Bool, true, false, cond, Option, Some, None, length, take, refl, ap, sym, ◌∙◌, subst, arith, append_assoc}
-use Rattle.std.specs.Prelude.{◌↔◌, fold, count_by}
+use Rattle.std.proofs.Common.{◌≡◌, ◌+◌, ℕ, List, [], ◌∷◌, ◌++◌, Bool, true, false, cond, Option, Some, None, length, refl, ap, sym, ◌∙◌, subst, arith, append_assoc}
+use Rattle.std.specs.Prelude.{fold}
 use Rattle.std.specs.Option.{option_map}
 use Rattle.std.proofs.lemmas.List.{same_from_push, append-nil}
 use Rattle.edit_rules.specs.declared.edits.Edit.{Edit}
 use Rattle.edit_rules.specs.Effects.{edited, scene_of}
-use Rattle.frame_store.specs.declared.places.Places.{Places}
 use Rattle.doc_book.specs.declared.entries.Entry.{Entry}
-use Rattle.doc_book.specs.declared.entries.Act.{Act}
-use Rattle.doc_book.specs.declared.entries.Act.TheVariants as act
-use Rattle.doc_book.specs.History.{edits_after, standing, scene_at, places_at, places_after, Moment, next_moment, moment_of, is_end, is_frame, end_place, after_end, frame_count, IsSettled}
+use Rattle.doc_book.specs.History.{edits_after, standing, scene_at, places_at, places_after, Moment, next_moment, moment_of, is_end, is_frame, end_place, after_end, IsSettled}
 use Rattle.doc_book.specs.Legal.{MayFollow, AllMayFollow, IsLegal}
 
 pub fold-push : {A B : Type 0} (f : B → A → B) (b : B) (xs : List A) (x : A) → fold f b (xs ++ x ∷ []) ≡ f (fold f b xs) x

@@ -1,7 +1,7 @@
 -- What the book keeps, through one entry more.
-use Rattle.std.proofs.Common.{◌≡◌, ◌+◌, ◌<◌, ◌≤◌, ℕ, List, [], ◌∷◌, ◌++◌, Bool, true, false, cond, Option, Some, None, length, map, refl, ap, sym, ◌∙◌, subst, arith, zero, suc, ℤ}
+use Rattle.std.proofs.Common.{◌≡◌, ◌+◌, ◌<◌, ℕ, List, [], ◌∷◌, ◌++◌, Bool, true, false, cond, Option, Some, None, length, map, refl, ap, sym, ◌∙◌, subst, arith, zero, suc, ℤ}
 use Rattle.std.proofs.lemmas.Bool.{false≢true}
-use Rattle.std.specs.Prelude.{◌↔◌, count_by, IsTrue, MatchOption}
+use Rattle.std.specs.Prelude.{◌↔◌, IsTrue, MatchOption}
 use Rattle.std.proofs.lemmas.List.{length-append, length-map}
 use Rattle.units.specs.declared.geometry.Axis.{Axis}
 use Rattle.units.specs.declared.geometry.Axis.TheVariants.{X, Y}
@@ -16,15 +16,14 @@ use Rattle.frame_store.specs.declared.frames.Frame.{Frame}
 use Rattle.frame_store.specs.Frames.{drawn}
 use Rattle.frame_store.specs.Carry.{carried, kept_place}
 use Rattle.doc_book.specs.declared.entries.Entry.{Entry}
-use Rattle.doc_book.specs.declared.entries.Act.{Act}
 use Rattle.doc_book.specs.declared.entries.Act.TheVariants as act
 use Rattle.doc_book.specs.Frames.{IsFrameOf}
 use Rattle.doc_book.specs.Growing.{entry_of}
-use Rattle.doc_book.specs.History.{standing, scene_at, places_at, is_end, is_frame, end_place, after_end, frame_count, IsSettled}
+use Rattle.doc_book.specs.History.{standing, scene_at, places_at, is_end, is_frame, end_place, after_end, frame_count}
 use Rattle.doc_book.specs.Kept.{IsKept, IsOpenCount, IsEndedCount}
 use Rattle.doc_book.specs.Legal.{HasRoom}
 use Rattle.doc_book.specs.Projection.{IsShown}
-use Rattle.doc_book.specs.Verdicts.{verdict, most_entries}
+use Rattle.doc_book.specs.Verdicts.{verdict}
 use Rattle.doc_book.proofs.Growing.{fold-push, scene_at-push, scene_of-push, places_at-push, IsLegal-push, IsSettled-push, IsSettled-push_frame, IsSettled-push_same, end_place-push_none, end_place-push_end, end_place-push_some, after_end-push_some, after_end-push_end}
 use Rattle.doc_book.proofs.Refusing.{not_ended, not_full}
 

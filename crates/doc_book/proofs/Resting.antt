@@ -1,7 +1,7 @@
 -- Places that no separation moves: their certificate, and the frame that has it.
-use Rattle.std.proofs.Common.{◌≡◌, ◌+◌, ◌*◌, ◌<◌, ◌≤◌, ◌^◌, ℕ, ℤ, pos, negsuc, ◌*ℤ◌, ◌-ℤ◌, nat_abs, List, [], ◌∷◌, Bool, true, false, cond, length, map, get_or, zero, suc, refl, ap, sym, ◌∙◌, subst, arith}
-use Rattle.std.specs.Prelude.{◌↔◌, All, slice_index, slice_index_or}
-use Rattle.std.specs.Int.{IsGcd, int_max, int_min}
+use Rattle.std.proofs.Common.{◌≡◌, ◌*◌, ◌≤◌, ℕ, ℤ, pos, negsuc, ◌*ℤ◌, ◌-ℤ◌, nat_abs, List, [], ◌∷◌, Bool, true, false, cond, length, map, zero, suc, refl, ap, sym, ◌∙◌, subst, arith}
+use Rattle.std.specs.Prelude.{◌↔◌, slice_index, slice_index_or}
+use Rattle.std.specs.Int.{int_min}
 use Rattle.std.specs.List.{AllByRecursion}
 use Rattle.std.proofs.Math.IntN.{*ℤ-one}
 use lib.IntN.{*ℤ-zero}
@@ -10,22 +10,21 @@ use Rattle.std.proofs.lemmas.Int.{ints, int_max_is, int_min_is}
 use Rattle.std.proofs.lemmas.List.{length-map}
 use Rattle.std.proofs.lemmas.List.Elements.{All-from_recursion}
 use Rattle.units.specs.Number.{clamped}
-use Rattle.units.specs.Problem.{Problem, IsBounded}
+use Rattle.units.specs.Problem.{IsBounded}
 use Rattle.units.specs.declared.geometry.Axis.{Axis}
 use Rattle.units.specs.declared.geometry.Axis.TheVariants.{X, Y}
 use Rattle.scene_model.specs.Diagram.{Diagram, IsWellFormed}
 use Rattle.scene_model.specs.Variables.{variables, shape_variable}
 use Rattle.scene_model.specs.declared.items.Shape.{Shape}
 use Rattle.scene_model.specs.declared.variables.Variable.{Variable}
-use Rattle.frac128.specs.Fraction.{Fraction, whole, minus_whole, times, minus, total, ◌≈◌, IsLowest}
+use Rattle.frac128.specs.Fraction.{whole, minus_whole, times, minus, ◌≈◌, IsLowest}
 use Rattle.multiplier_check.specs.declared.certificate.Certificate.{Certificate}
-use Rattle.multiplier_check.specs.Placement.{Placement, IsPlacement, placement_of, Keeps, IsLeast, IsProjection}
-use Rattle.multiplier_check.specs.Certificate.{fraction_at, gradient, IsNear, IsBalanced, IsCertificate}
+use Rattle.multiplier_check.specs.Placement.{Placement, IsPlacement, Keeps}
+use Rattle.multiplier_check.specs.Certificate.{fraction_at, IsNear, IsBalanced, IsCertificate}
 use Rattle.multiplier_check.proofs.Law.{certificate_projection, IsLeast-same}
 use Rattle.frame_store.specs.declared.places.Places.{Places}
-use Rattle.frame_store.specs.declared.frames.Frame.{Frame}
-use Rattle.doc_book.specs.Frames.{proposal, IsFrameOf}
-use Rattle.doc_book.specs.Projection.{weights, Fits, Projects, problem_of, IsShown}
+use Rattle.doc_book.specs.Frames.{IsFrameOf}
+use Rattle.doc_book.specs.Projection.{weights, Fits, problem_of, IsShown}
 
 -- the certificate of these places, without multipliers
 abbrev pub at_rest : List ℤ → Certificate

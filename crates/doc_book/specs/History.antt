@@ -1,5 +1,5 @@
 -- Standing edits, scenes and places of a history.
-use Rattle.std.specs.Prelude.{◌≡◌, ℕ, ◌-◌, ◌+◌, ℤ, List, [], ◌∷◌, ◌++◌, length, take, fold, count_by, Bool, true, false, if◌then◌else◌, Option, Some, None, ⊤}
+use Rattle.std.specs.Prelude.{◌≡◌, ℕ, ◌+◌, List, [], ◌∷◌, ◌++◌, fold, count_by, Bool, true, false, if◌then◌else◌, Option, Some, None}
 use Rattle.std.specs.Option.{option_map}
 use Rattle.scene_model.specs.Diagram.{Diagram}
 use Rattle.edit_rules.specs.declared.edits.Edit.{Edit}

@@ -1,5 +1,5 @@
 -- The carry rule: which places stay after an edit (it is this project's own).
-use Rattle.std.specs.Prelude.{◌≡◌, ℕ, ℤ, pos, List, [], ◌∷◌, map, Bool, ◌&&◌, ◌==◌, if◌then◌else◌, Option, Some, None, slice_get, slice_index_or, position}
+use Rattle.std.specs.Prelude.{ℕ, ℤ, pos, List, map, Bool, ◌&&◌, ◌==◌, if◌then◌else◌, Option, Some, None, slice_get, slice_index_or, position}
 use Rattle.std.specs.Ordering.{int_eq}
 use Rattle.units.specs.declared.geometry.Axis.TheVariants.{X, Y}
 use Rattle.scene_model.specs.declared.variables.Variable.{Variable}

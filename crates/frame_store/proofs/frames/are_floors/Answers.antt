@@ -1,4 +1,4 @@
-use Rattle.std.proofs.Common.{rules, ◌≡◌, ◌<◌, ℤ, map, take, get_or, length, pos, sym, subst, ap, ◌∙◌, w64, to_z, of_z, FitsSigned}
+use Rattle.std.proofs.Common.{rules, ◌≡◌, ◌<◌, map, get_or, pos, sym, subst, ap, ◌∙◌, w64, to_z, FitsSigned}
 use Rattle.std.proofs.lemmas.Int.{to_z-of_z}
 use Rattle.std.proofs.lemmas.List.{take_more_same, get_or-map, length-map}
 use Rattle.frac128.specs.Fraction.{floor_of}

@@ -1,6 +1,4 @@
-use Rattle.std.proofs.Common.{◌≡◌, ◌+◌, ◌++◌, drop, ap, sym, ◌∙◌}
 use Rattle.std.proofs.lemmas.Bool.{false≢true}
-use Rattle.doc_book.specs.Listing.{text_lines, multiplier_lines}
 use Rattle.listing_text.proofs.Lines.{multipliers_more, grows}
 use Rattle.listing_text.proofs.frames.add_multipliers.Goals as goal
 

@@ -1,4 +1,4 @@
-use Rattle.std.proofs.Common.{◌≡◌, List, ap, sym, ◌∙◌, subst, false}
+use Rattle.std.proofs.Common.{List, ap, sym, ◌∙◌, subst, false}
 use Rattle.edit_rules.specs.Effects.{edited}
 use Rattle.doc_book.specs.Document.{Document}
 use Rattle.doc_book.specs.Kept.{IsKept}
