@@ -11,9 +11,9 @@ use Rattle.doc_book.specs.declared.entries.Act.{Act}
 use Rattle.doc_book.specs.declared.entries.Act.TheVariants as act
 use Rattle.doc_book.specs.Document.{Document}
 use Rattle.doc_book.specs.Finished.{IsFinished, IsFinishing}
-use Rattle.doc_book.specs.History.{end_place, after_end, is_end, is_frame, is_end_act, is_frame_act, IsSettled}
+use Rattle.doc_book.specs.History.{end_place, after_end, is_end, is_end_act, is_frame_act, IsSettled}
 use Rattle.doc_book.proofs.Growing.{end_place-push_none, end_place-push_some, after_end-push_some}
-use Rattle.editor_run.specs.Finishing.{GrowsOnce, IsDone, GrowsByFinishing}
+use Rattle.editor_run.specs.Finishing.{GrowsOnce, GrowsByFinishing}
 
 -- a history behind a start that was just ended, with finishing frames alone, of which none but the last may settle it
 pub record FinishesFrom (start h : Document) : Type 0 where

@@ -1,14 +1,14 @@
 -- From the lines that were played to the finished document.
-use Rattle.std.proofs.Common.{◌≡◌, ◌≢◌, ◌+◌, ◌<◌, ◌≤◌, ℕ, List, [], ◌∷◌, ◌++◌, Bool, true, false, cond, Option, Some, None, length, map, take, drop, refl, ap, sym, ◌∙◌, subst, arith, slice_get, zero, suc, append_assoc}
+use Rattle.std.proofs.Common.{◌≡◌, ◌≢◌, ◌+◌, ◌<◌, ◌≤◌, ℕ, List, [], ◌∷◌, ◌++◌, Bool, true, false, cond, Option, Some, None, length, map, refl, ap, sym, ◌∙◌, subst, arith, zero, suc, append_assoc}
 use Rattle.std.specs.Option.{option_map}
 use Rattle.std.proofs.lemmas.List.{append-nil}
 use Rattle.std.proofs.lemmas.Bool.Decides.{nat_tests}
 use Rattle.std.specs.Prelude.{◌==◌, filter, replicate}
 use Rattle.std.specs.List.{AllByRecursion}
 use Rattle.std.proofs.Math.Seq.{take-append_seam, drop-append_seam}
-use Rattle.std.proofs.lemmas.Bool.{eqb-true, eq-eqb}
+use Rattle.std.proofs.lemmas.Bool.{eq-eqb}
 use Rattle.script_text.specs.declared.scripts.Line.{Line}
-use Rattle.script_text.specs.Scripts.{AreLines, IsScript}
+use Rattle.script_text.specs.Scripts.{AreLines}
 use Rattle.doc_book.specs.declared.entries.Entry.{Entry}
 use Rattle.doc_book.specs.declared.entries.Act.TheVariants as act
 use Rattle.doc_book.specs.declared.replies.Reply.{Reply}
@@ -17,8 +17,8 @@ use Rattle.doc_book.specs.Finished.{IsFinishing}
 use Rattle.doc_book.specs.Growing.{entry_of}
 use Rattle.doc_book.specs.History.{end_place, after_end, is_end}
 use Rattle.doc_book.specs.Listing.{session_lines}
-use Rattle.doc_book.specs.Replies.{AreRightReplies, OwnEntriesAre, own_entries, after_of}
-use Rattle.doc_book.proofs.Growing.{end_place-push_end, end_place-push_some, end_place-push_none, after_end-push_end}
+use Rattle.doc_book.specs.Replies.{AreRightReplies, OwnEntriesAre, after_of}
+use Rattle.doc_book.proofs.Growing.{end_place-push_end, end_place-push_some, after_end-push_end}
 use Rattle.editor_run.specs.Finishing.{GrowsByFinishing}
 use Rattle.editor_run.specs.Played.{ForSessions, AreOwnEntries, HaveRightReplies, AreCallers}
 use Rattle.editor_run.specs.Progress.{HasPlayed, IsSessionEntry}

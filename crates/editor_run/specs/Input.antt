@@ -1,5 +1,5 @@
 -- What is known of the bytes of a script, where the source tells them.
-use Rattle.std.specs.Prelude.{ℕ, ◌≤◌, ◌<◌, List, Option, IfSome, length}
+use Rattle.std.specs.Prelude.{ℕ, List, Option, IfSome}
 use Rattle.script_text.specs.declared.scripts.Line.{Line}
 use Rattle.script_text.specs.Scripts.{Spells}
 

@@ -1,4 +1,4 @@
-use Rattle.std.proofs.Common.{◌≡◌, ap, sym, ◌∙◌, subst, Ok, arith, length}
+use Rattle.std.proofs.Common.{ap, sym, ◌∙◌, subst, Ok, arith}
 use Rattle.doc_book.specs.Document.{Document}
 use Rattle.doc_book.specs.Finished.{IsFinished}
 use Rattle.editor_run.proofs.Settling.{FinishesFrom-start, FinishesFrom-once, FinishesFrom-done, longer_behind}

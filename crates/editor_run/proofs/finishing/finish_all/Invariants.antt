@@ -1,4 +1,4 @@
-use Rattle.std.proofs.Common.{ℕ, ◌-◌, length}
+use Rattle.std.proofs.Common.{◌-◌, length}
 use Rattle.doc_book.specs.History.{after_end}
 use Rattle.editor_run.proofs.Settling.{FinishesFrom}
 use Rattle.editor_run.proofs.finishing.finish_all.Given as goal

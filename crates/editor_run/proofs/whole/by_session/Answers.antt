@@ -1,4 +1,4 @@
-use Rattle.std.proofs.Common.{◌≡◌, ◌++◌, ◌∷◌, [], replicate, ap, ◌∙◌, suc, add-one, subst, ℕ, arith, List}
+use Rattle.std.proofs.Common.{◌≡◌, ◌++◌, ◌∷◌, [], replicate, ap, ◌∙◌, add-one, subst, ℕ, arith, List}
 use Rattle.doc_book.specs.declared.replies.Reply.{Reply}
 use Rattle.editor_run.proofs.Together.{lists-push}
 use Rattle.editor_run.proofs.whole.by_session.Goals as goal

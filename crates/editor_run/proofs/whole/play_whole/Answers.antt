@@ -1,8 +1,7 @@
-use Rattle.std.proofs.Common.{◌≡◌, List, subst, sym, ap, ◌∙◌, length}
+use Rattle.std.proofs.Common.{◌≡◌, List, subst, sym, ap}
 use Rattle.std.specs.List.{AllByRecursion}
 use Rattle.std.specs.Option.{is_some}
 use Rattle.script_text.specs.declared.scripts.Line.{Line}
-use Rattle.script_text.specs.Scripts.{IsScript}
 use Rattle.editor_run.specs.Played.{HaveRightReplies}
 use Rattle.editor_run.proofs.Together.{of_session_one, not_ended_by, ended_place, ended_last, finished_own, finished_replies, finished_callers}
 use Rattle.editor_run.proofs.whole.play_whole.Goals as goal
