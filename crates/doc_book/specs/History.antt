@@ -25,6 +25,7 @@ standing h = fold (λ edits (e : Entry). edits_after edits e.act) [] h
 abbrev pub scene_at : List Entry → Diagram
 scene_at h = scene_of (standing h)
 
+-- the places of no variables
 abbrev pub no_places : Places
 no_places = record { x = []; y = [] }
 
@@ -39,12 +40,14 @@ pub record Moment : Type 0 where
   pub edits : List Edit
   pub places : Places
 
+-- what stands after one entry more: its edits, and the places that its act leaves
 abbrev pub next_moment : Moment → Entry → Moment
 next_moment m e = record {
   edits = edits_after m.edits e.act;
   places = places_after e.act (scene_of m.edits) (scene_of (edits_after m.edits e.act)) m.places;
 }
 
+-- what stands after a whole history, from no edits and no places on
 abbrev pub moment_of : List Entry → Moment
 moment_of h = fold next_moment (record { edits = []; places = no_places }) h
 
@@ -52,19 +55,23 @@ moment_of h = fold next_moment (record { edits = []; places = no_places }) h
 abbrev pub places_at : List Entry → Places
 places_at h = (moment_of h).places
 
+-- the act ends the document
 abbrev pub is_end_act : Act → Bool
 is_end_act (act.Edit e) = false
 is_end_act (act.Frame f) = false
 is_end_act act.End = true
 
+-- the act is a frame
 abbrev pub is_frame_act : Act → Bool
 is_frame_act (act.Edit e) = false
 is_frame_act (act.Frame f) = true
 is_frame_act act.End = false
 
+-- the entry is End
 abbrev pub is_end : Entry → Bool
 is_end e = is_end_act e.act
 
+-- the entry is a frame
 abbrev pub is_frame : Entry → Bool
 is_frame e = is_frame_act e.act
 

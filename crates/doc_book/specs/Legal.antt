@@ -22,6 +22,7 @@ ActMayFollow h budget e (act.Edit edit) = verdict h edit ≡ None
 ActMayFollow h budget e (act.Frame frame) = HasRoom h budget × IsFrameOf (scene_at h) (places_at h) frame
 ActMayFollow h budget e act.End = (e.who ≡ 0) × (e.line ≡ 0) × (end_place h ≡ None)
 
+-- an entry may follow a history with this budget: its act may
 abbrev pub MayFollow : List Entry → ℕ → Entry → Type 0
 MayFollow h budget e = ActMayFollow h budget e e.act
 

@@ -36,6 +36,7 @@ text_line words = spaced words ++ 10 ∷ []
 abbrev pub text_lines : List (List Word) → List ℕ
 text_lines lines = flat_map text_line lines
 
+-- an axis is spelled x or y
 abbrev pub axis_word : Axis → Word
 axis_word X = codes "x"
 axis_word Y = codes "y"
@@ -76,6 +77,7 @@ act_words (act.Edit e) = edit_words e
 act_words (act.Frame f) = codes "frame" ∷ []
 act_words act.End = codes "end" ∷ []
 
+-- below a frame stand its lines, below every other act none
 abbrev pub lines_below : Diagram → Act → List (List Word)
 lines_below scene (act.Edit e) = []
 lines_below scene (act.Frame f) = frame_lines scene f
@@ -90,6 +92,7 @@ abbrev pub entry_lines : List Entry → ℕ → List Entry → List (List Word)
 entry_lines before place [] = []
 entry_lines before place (e ∷ es) = lines_of (scene_at before) place e ++ entry_lines (before ++ e ∷ []) (place + 1) es
 
+-- the word of what a limit counts
 abbrev pub counted_word : Counted → Word
 counted_word counted.Shapes = codes "shapes"
 counted_word counted.Entries = codes "entries"
@@ -102,6 +105,7 @@ refusal_words (refusal.Limit what count) = codes "limit" ∷ counted_word what �
 refusal_words (refusal.Ended place) = codes "ended" ∷ decimal place ∷ []
 refusal_words refusal.Memory = []
 
+-- the words of a reply: which one it is, its place or front, and the cause of a refusal
 abbrev pub reply_words : Reply → List Word
 reply_words (reply.Accepted place) = codes "accepted" ∷ decimal place ∷ []
 reply_words (reply.Published place) = codes "published" ∷ decimal place ∷ []

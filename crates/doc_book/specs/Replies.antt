@@ -35,6 +35,7 @@ IsLook h budget Job = (end_place h ≡ None) × (frame_count h < budget) × (IsS
 abbrev pub IsEntryAt : List Entry → ℕ → ℕ → ℕ → (Act → Type 0) → Type 0
 IsEntryAt h place who line P = (e : Entry) × (slice_get h place ≡ Some e) × (e.who ≡ who) × (e.line ≡ line) × P e.act
 
+-- the act is a frame, whichever
 abbrev pub IsFrameAct : Act → Type 0
 IsFrameAct (act.Frame f) = ⊤
 IsFrameAct _ = ⊥
@@ -49,6 +50,7 @@ abbrev pub IsRefused : List Entry → ℕ → ℕ → Refusal → Command → Ty
 IsRefused h budget front r (command.Edit e) = verdict (take front h) e ≡ Some r
 IsRefused h budget front r command.Layout = (place : ℕ) × (r ≡ refusal.Ended place) × IsLook (take front h) budget (Ending place)
 
+-- the command asks for a frame
 abbrev pub IsLayout : Command → Type 0
 IsLayout (command.Edit e) = ⊥
 IsLayout command.Layout = ⊤

@@ -51,6 +51,7 @@ IsBare outcome = ((outcome.status ≡ 0) ⊎ (outcome.status ≡ 6)) ⊎ ((outco
 abbrev pub failure : Fault → Outcome
 failure f = record { status = status_of f; fault = Some f; book = None; script = None; replies = [] }
 
+-- the status of a fault, or 0 where there is none
 abbrev pub status_or_zero : Option Fault → ℕ
 status_or_zero None = 0
 status_or_zero (Some f) = status_of f

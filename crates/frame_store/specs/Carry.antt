@@ -16,6 +16,7 @@ abbrev pub kept_from : Option Variable → ℤ → Variable → ℤ
 kept_from None place v = v.anchor
 kept_from (Some u) place v = if is_unmoved u v then place else v.anchor
 
+-- the place of a variable, given the number that its name had before, if it stood
 abbrev pub kept_at : List Variable → List ℤ → Option ℕ → Variable → ℤ
 kept_at before places None v = v.anchor
 kept_at before places (Some at) v = kept_from (slice_get before at) (slice_index_or places at (pos 0)) v
