@@ -1,12 +1,12 @@
 -- A sound diagram stays sound.
-use Rattle.std.proofs.Common.{◌≡◌, ◌+◌, ◌<◌, ◌≤◌, ℕ, List, [], ◌∷◌, ◌++◌, false, length, map, refl, ap, sym, ◌∙◌, arith, subst, add-one}
-use Rattle.std.specs.List.{list_any, IsDistinct, AllByRecursion}
+use Rattle.std.proofs.Common.{◌≡◌, ◌<◌, List, [], ◌∷◌, ◌++◌, false, length, refl, ap, arith}
+use Rattle.std.specs.List.{list_any, AllByRecursion}
 use Rattle.std.specs.Cmp.Lexicographic.{nat_list_eq_equiv}
 use Rattle.std.proofs.lemmas.Map.Keys.{IsDistinct-push}
 use Rattle.std.proofs.lemmas.List.{length-append}
 use Rattle.scene_model.specs.declared.items.Shape.{Shape}
 use Rattle.scene_model.specs.Names.{same_name}
-use Rattle.scene_model.specs.Diagram.{Diagram, IsWellFormed, IsShape, shape_names, most_shapes}
+use Rattle.scene_model.specs.Diagram.{IsWellFormed, IsShape, shape_names, most_shapes}
 
 shape_names-push : (ss : List Shape) (s : Shape) → shape_names (ss ++ s ∷ []) ≡ shape_names ss ++ s.name ∷ []
 shape_names-push [] s = refl

@@ -1,5 +1,5 @@
 -- A diagram: the lists of its items, each in the order of making.
-use Rattle.std.specs.Prelude.{◌≡◌, ℕ, ◌≤◌, ℤ, pos, ◌≤ℤ◌, List, [], length, map, nat_abs}
+use Rattle.std.specs.Prelude.{ℕ, ◌≤◌, ℤ, pos, ◌≤ℤ◌, List, [], length, map, nat_abs}
 use Rattle.std.specs.List.{AllByRecursion, IsDistinct}
 use Rattle.scene_model.specs.declared.items.Shape.{Shape}
 use Rattle.scene_model.specs.Names.{NameOf, same_name}

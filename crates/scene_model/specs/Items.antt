@@ -1,8 +1,7 @@
 -- The items of a diagram by sort and by name.
-use Rattle.std.specs.Prelude.{ℕ, ◌<◌, List, ◌++◌, ◌∷◌, [], length, Bool, Option, Some, None, position}
+use Rattle.std.specs.Prelude.{ℕ, ◌<◌, ◌++◌, ◌∷◌, [], length, Bool, Option, position}
 use Rattle.std.specs.Option.{option_map}
 use Rattle.std.specs.List.{list_any}
-use Rattle.units.specs.declared.geometry.Axis.{Axis}
 use Rattle.scene_model.specs.declared.items.Sort.{Sort}
 use Rattle.scene_model.specs.declared.items.Sort.TheVariants as sort
 use Rattle.scene_model.specs.declared.items.Item.{Item}

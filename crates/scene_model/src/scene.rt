@@ -7,7 +7,7 @@ ghost use Rattle.scene_model.specs.Items.{stands, count_of, item_named, variable
 ghost use Rattle.scene_model.specs.Variables.{variables, same_variable, shape_variable};
 
 use crate::items::{Item, Shape, Sort, Thing};
-use crate::shapes::Shapes;
+use crate::naming::NamedItems;
 use crate::variables::{Variable, VariableName};
 use std::alloc::Global;
 use std::marker::Model;
@@ -17,7 +17,7 @@ use units::{Axis, Memory, Name};
 /// numbers lie in their ranges, and counts within the limits. Contracts see it as a diagram.
 #[derive(Drop)]
 pub struct Scene {
-    shapes: Shapes,
+    shapes: NamedItems<Shape>,
 }
 
 impl Model for Scene {
@@ -36,7 +36,7 @@ impl Scene {
         ensures { result ≡ empty_diagram }
     {
         Scene {
-            shapes: Shapes::new(alloc),
+            shapes: NamedItems::new(alloc),
         }
     }
 

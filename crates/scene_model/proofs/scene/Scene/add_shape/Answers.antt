@@ -1,9 +1,9 @@
-use Rattle.std.proofs.Common.{◌≡◌, ap, ◌∙◌, sym, subst, length, arith}
+use Rattle.std.proofs.Common.{◌≡◌, ap, ◌∙◌, sym, subst}
 use Rattle.std.specs.List.{list_any}
 use Rattle.scene_model.specs.declared.items.Shape.{Shape}
 use Rattle.std.specs.Prelude.{List}
 use Rattle.scene_model.specs.Names.{same_name}
-use Rattle.scene_model.specs.Diagram.{Diagram, IsWellFormed, names_of, most_shapes}
+use Rattle.scene_model.specs.Diagram.{Diagram, IsWellFormed, names_of}
 use Rattle.scene_model.proofs.Sound.{IsWellFormed-push}
 use Rattle.scene_model.proofs.scene.Scene.add_shape.Goals as goal
 

@@ -2,7 +2,7 @@ use Rattle.std.proofs.Common.{ap, sym, ◌∙◌}
 use Rattle.std.specs.Option.{is_some}
 use Rattle.std.specs.List.{list_any}
 use Rattle.scene_model.specs.Names.{same_name}
-use Rattle.scene_model.specs.Diagram.{names_of, shape_names}
+use Rattle.scene_model.specs.Diagram.{names_of}
 use Rattle.scene_model.proofs.Named.{is_some-position}
 use Rattle.scene_model.proofs.scene.Scene.lookup.Goals as goal
 

@@ -1,4 +1,4 @@
-use Rattle.std.proofs.Common.{◌≡◌, ap, sym, ◌∙◌}
+use Rattle.std.proofs.Common.{ap, sym, ◌∙◌}
 use Rattle.std.specs.Prelude.{position}
 use Rattle.scene_model.specs.declared.variables.Variable.{Variable}
 use Rattle.scene_model.specs.declared.variables.VariableName.TheVariants.{OfItem}
