@@ -11,7 +11,7 @@ use Rattle.std.proofs.lemmas.Bool.{le-ltb, false≢true}
 use Rattle.indexmap.specs.IndexMap.{insert_entry, move_index, index_before}
 use Rattle.scene_model.specs.Names.{NameOf, same_name}
 use Rattle.scene_model.specs.Naming.{AreNamed, items_of, has_name, replaced}
-use Rattle.scene_model.proofs.Named.{keys_of-named, insert_entry-named}
+use Rattle.scene_model.proofs.Named.{keys_of-named, insert_entry-named, AreNamed-push, items_of-push}
 
 -- the item of an entry
 pub items_of-get : {T : Type 0} (es : List (NameOf × T)) (k : ℕ) → slice_get (items_of es) k ≡ option_map (λ e. e.1) (slice_get es k)
@@ -20,7 +20,7 @@ items_of-get (e ∷ es) zero = refl
 items_of-get (e ∷ es) (suc k) = items_of-get es k
 
 -- a name that a look-up misses is among no keys
-pub free-lookup : {T : Type 0} (es : List (NameOf × T)) (n : NameOf) → lookup (bytes_eq n) es ≡ None → list_any (bytes_eq n) (keys_of es) ≡ false
+free-lookup : {T : Type 0} (es : List (NameOf × T)) (n : NameOf) → lookup (bytes_eq n) es ≡ None → list_any (bytes_eq n) (keys_of es) ≡ false
 free-lookup [] n missed = refl
 free-lookup {T} (e ∷ es) n missed = by (bytes_eq n e.0) missed (free-lookup es n)
   where
@@ -35,7 +35,7 @@ module _ {T : Type 0} (name_of : T → NameOf) where
   AreNamed-remove (e ∷ es) zero named = named.1
   AreNamed-remove (e ∷ es) (suc k) named = (named.0, AreNamed-remove es k named.1)
 
-  pub AreNamed-insert : (es : List (NameOf × T)) (k : ℕ) (x : T) → AreNamed name_of es → AreNamed name_of (insert es k (name_of x, x))
+  AreNamed-insert : (es : List (NameOf × T)) (k : ℕ) (x : T) → AreNamed name_of es → AreNamed name_of (insert es k (name_of x, x))
   AreNamed-insert [] zero x named = (refl, tt)
   AreNamed-insert [] (suc k) x named = (refl, tt)
   AreNamed-insert (e ∷ es) zero x named = (refl, named)
@@ -47,7 +47,7 @@ items_of-remove [] (suc k) = refl
 items_of-remove (e ∷ es) zero = refl
 items_of-remove (e ∷ es) (suc k) = ap (λ xs. e.1 ∷ xs) (items_of-remove es k)
 
-pub items_of-insert : {T : Type 0} (es : List (NameOf × T)) (k : ℕ) (n : NameOf) (x : T) → items_of (insert es k (n, x)) ≡ insert (items_of es) k x
+items_of-insert : {T : Type 0} (es : List (NameOf × T)) (k : ℕ) (n : NameOf) (x : T) → items_of (insert es k (n, x)) ≡ insert (items_of es) k x
 items_of-insert [] zero n x = refl
 items_of-insert [] (suc k) n x = refl
 items_of-insert (e ∷ es) zero n x = refl
@@ -60,7 +60,7 @@ module _ {T : Type 0} (name_of : T → NameOf) (x : T) where
   replaced-absent (y ∷ ys) all = λ j. cond (all.0 j) x y ∷ replaced-absent ys all.1 j
 
   -- the entry of the name, replaced
-  pub entries-replaced : (es : List (NameOf × T)) → AreNamed name_of es → IsDistinct same_name (keys_of es) → list_any (bytes_eq (name_of x)) (keys_of es) ≡ true
+  entries-replaced : (es : List (NameOf × T)) → AreNamed name_of es → IsDistinct same_name (keys_of es) → list_any (bytes_eq (name_of x)) (keys_of es) ≡ true
       → AreNamed name_of (insert_entry bytes_eq es (name_of x) x) × (items_of (insert_entry bytes_eq es (name_of x) x) ≡ replaced name_of x (items_of es))
   entries-replaced [] named distinct stands = cc
   entries-replaced (e ∷ es) named distinct stands =
@@ -107,7 +107,7 @@ move_index-last xs x k =
     ∙ ap (λ ys. insert ys k x) (remove-last xs x)
 
 -- an entry of a new name, put at a place
-pub entries-put_back : {T : Type 0} (name_of : T → NameOf) (es : List (NameOf × T)) (items : List T) (n : NameOf) (x : T) (k r : ℕ) → AreNamed name_of es → items_of es ≡ items → n ≡ name_of x
+entries-put_back : {T : Type 0} (name_of : T → NameOf) (es : List (NameOf × T)) (items : List T) (n : NameOf) (x : T) (k r : ℕ) → AreNamed name_of es → items_of es ≡ items → n ≡ name_of x
     → has_name name_of (name_of x) items ≡ false → k ≤ length items → r ≡ index_before (position_or_len (bytes_eq n) (keys_of es)) k
     → move_index (insert_entry bytes_eq es n x) (position_or_len (bytes_eq n) (keys_of es)) r ≡ insert es k (name_of x, x)
 entries-put_back name_of es items n x k r named seen named_so free within at =
@@ -122,7 +122,7 @@ entries-put_back name_of es items n x k r named seen named_so free within at =
     ∙ move_index-last es (name_of x, x) k
 
 -- an outcome that can't be a refusal has what it has where it is an answer
-pub on_ok : {A E : Type 0} {P Q : Type 0} (r : Result A E) → OnOk r P → OnErr r Q → (Q → ⊥) → P
+on_ok : {A E : Type 0} {P Q : Type 0} (r : Result A E) → OnOk r P → OnErr r Q → (Q → ⊥) → P
 on_ok (Ok a) holds refused never = holds
 on_ok (Err e) holds refused never = absurd (never refused)
 
@@ -138,3 +138,18 @@ items_replaced name_of es after items n x r named seen distinct named_so stands 
     let same : after ≡ insert_entry bytes_eq es (name_of x) x = entries ∙ ap (λ m. insert_entry bytes_eq es m x) named_so in
     let both = entries-replaced name_of x es named distinct there in
     (subst (AreNamed name_of) (sym same) both.0, ap items_of same ∙ (both.1 ∙ ap (replaced name_of x) seen))
+
+-- the items with one more at the end
+pub items_pushed : {T : Type 0} (name_of : T → NameOf) (es after : List (NameOf × T)) (items : List T) (n : NameOf) (x : T) → AreNamed name_of es → items_of es ≡ items → n ≡ name_of x
+    → has_name name_of (name_of x) items ≡ false → after ≡ insert_entry bytes_eq es n x → AreNamed name_of after × (items_of after ≡ items ++ x ∷ [])
+items_pushed name_of es after items n x named seen named_so free entries =
+    let same : after ≡ es ++ (name_of x, x) ∷ [] = entries ∙ insert_entry-named name_of es items n x named seen named_so free in
+    (subst (AreNamed name_of) (sym same) (AreNamed-push name_of es x named), ap items_of same ∙ (items_of-push name_of es (name_of x) x ∙ ap (λ xs. xs ++ x ∷ []) seen))
+
+-- the items with one more at a place
+pub items_put_back : {T : Type 0} (name_of : T → NameOf) (es after : List (NameOf × T)) (items : List T) (n : NameOf) (x : T) (k r : ℕ) → AreNamed name_of es → items_of es ≡ items → n ≡ name_of x
+    → has_name name_of (name_of x) items ≡ false → k ≤ length items → r ≡ index_before (position_or_len (bytes_eq n) (keys_of es)) k
+    → after ≡ move_index (insert_entry bytes_eq es n x) (position_or_len (bytes_eq n) (keys_of es)) r → AreNamed name_of after × (items_of after ≡ insert items k x)
+items_put_back name_of es after items n x k r named seen named_so free within at entries =
+    let same : after ≡ insert es k (name_of x, x) = entries ∙ entries-put_back name_of es items n x k r named seen named_so free within at in
+    (subst (AreNamed name_of) (sym same) (AreNamed-insert name_of es k x named), ap items_of same ∙ (items_of-insert es k (name_of x) x ∙ ap (λ xs. insert xs k x) seen))

@@ -53,7 +53,7 @@ insert_entry-named name_of es items n x named seen named_so free =
     ap (λ m. insert_entry bytes_eq es m x) named_so
     ∙ insert_entry-new_name es (name_of x) x (ap (list_any (bytes_eq (name_of x))) (keys_of-named name_of es named ∙ ap (map name_of) seen) ∙ free)
 
-same_name-sym : (m n : NameOf) → same_name m n ≡ same_name n m
+pub same_name-sym : (m n : NameOf) → same_name m n ≡ same_name n m
 same_name-sym m n = nat_list_eq_equiv.symm m n
 
 module _ {T : Type 0} (name_of : T → NameOf) where
