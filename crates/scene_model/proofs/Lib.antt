@@ -1,2 +1,5 @@
+pub mod Changes
+pub mod Entries
 pub mod Named
+pub mod Places
 pub mod Sound

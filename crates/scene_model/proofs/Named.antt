@@ -1,4 +1,8 @@
+<<<<<<< HEAD
 -- Shapes under their names: numbers, new names, copies.
+=======
+-- Items under their names: numbers, new names, copies.
+>>>>>>> 909f6acf76abc29a60e67b33993c2b68f3ba275c
 use Rattle.std.proofs.Common.{◌≡◌, ◌+◌, ◌<◌, ℕ, List, [], ◌∷◌, ◌++◌, Bool, true, false, cond, ◌||◌, length, map, refl, ap, sym, ◌∙◌, arith, take, slice_get, Some, None, zero, suc, subst, add-one}
 use Rattle.std.specs.Prelude.{bytes_eq, position, nat_lt}
 use Rattle.std.specs.List.{position_or_len, list_any, IsDistinct, AllByRecursion}
@@ -17,12 +21,21 @@ use Rattle.std.proofs.lemmas.List.{length-map}
 use Rattle.std.proofs.lemmas.Bool.{ltb-true}
 use Rattle.scene_model.specs.Names.{NameOf, same_name}
 use Rattle.scene_model.specs.Diagram.{shape_names}
-use Rattle.scene_model.specs.Shapes.{AreNamed, shapes_of}
+use Rattle.scene_model.specs.Naming.{AreNamed, items_of, has_name}
 
--- the keys are the names of the shapes
-pub keys_of-named : (es : List (NameOf × Shape)) → AreNamed es → keys_of es ≡ shape_names (shapes_of es)
-keys_of-named [] named = refl
-keys_of-named (e ∷ es) named = grind (arith, named.0, keys_of-named es named.1)
+module _ {T : Type 0} (name_of : T → NameOf) where
+  -- the keys are the names of the items
+  pub keys_of-named : (es : List (NameOf × T)) → AreNamed name_of es → keys_of es ≡ map name_of (items_of es)
+  keys_of-named [] named = refl
+  keys_of-named (e ∷ es) named = grind (arith, named.0, keys_of-named es named.1)
+
+  pub AreNamed-push : (es : List (NameOf × T)) (x : T) → AreNamed name_of es → AreNamed name_of (es ++ (name_of x, x) ∷ [])
+  AreNamed-push [] x named = (refl, tt)
+  AreNamed-push (e ∷ es) x named = (named.0, AreNamed-push es x named.1)
+
+  pub items_of-push : (es : List (NameOf × T)) (n : NameOf) (x : T) → items_of (es ++ (n, x) ∷ []) ≡ items_of es ++ x ∷ []
+  items_of-push [] n x = refl
+  items_of-push (e ∷ es) n x = ap (λ xs. e.1 ∷ xs) (items_of-push es n x)
 
 -- a place is found exactly where some element passes
 pub is_some-position : {A : Type 0} (p : A → Bool) (xs : List A) → is_some (position p xs) ≡ list_any p xs
@@ -30,39 +43,38 @@ is_some-position p [] = refl
 is_some-position p (x ∷ xs) = grind (arith, nat_tests, is_some-position p xs)
 
 -- a new name goes last
-pub insert_entry-new_name : (es : List (NameOf × Shape)) (n : NameOf) (s : Shape) → list_any (bytes_eq n) (keys_of es) ≡ false → insert_entry bytes_eq es n s ≡ es ++ (n, s) ∷ []
-insert_entry-new_name [] n s free = refl
-insert_entry-new_name (e ∷ es) n s free = by (bytes_eq n e.0) free (insert_entry-new_name es n s)
+pub insert_entry-new_name : {T : Type 0} (es : List (NameOf × T)) (n : NameOf) (x : T) → list_any (bytes_eq n) (keys_of es) ≡ false → insert_entry bytes_eq es n x ≡ es ++ (n, x) ∷ []
+insert_entry-new_name [] n x free = refl
+insert_entry-new_name {T} (e ∷ es) n x free = by (bytes_eq n e.0) free (insert_entry-new_name es n x)
   where
-    by : (b : Bool) → (b || list_any (bytes_eq n) (keys_of es)) ≡ false → (list_any (bytes_eq n) (keys_of es) ≡ false → insert_entry bytes_eq es n s ≡ es ++ (n, s) ∷ []) → cond b ((e.0, s) ∷ es) (e ∷ insert_entry bytes_eq es n s) ≡ e ∷ (es ++ (n, s) ∷ [])
+    by : (b : Bool) → (b || list_any (bytes_eq n) (keys_of es)) ≡ false → (list_any (bytes_eq n) (keys_of es) ≡ false → insert_entry bytes_eq es n x ≡ es ++ (n, x) ∷ []) → cond b ((e.0, x) ∷ es) (e ∷ insert_entry bytes_eq es n x) ≡ e ∷ (es ++ (n, x) ∷ [])
     by true h rest = cc
     by false h rest = ap (λ xs. e ∷ xs) (rest h)
 
-pub AreNamed-push : (es : List (NameOf × Shape)) (s : Shape) → AreNamed es → AreNamed (es ++ (s.name, s) ∷ [])
-AreNamed-push [] s named = (refl, tt)
-AreNamed-push (e ∷ es) s named = (named.0, AreNamed-push es s named.1)
+-- an item of a new name goes last
+pub insert_entry-named : {T : Type 0} (name_of : T → NameOf) (es : List (NameOf × T)) (items : List T) (n : NameOf) (x : T) → AreNamed name_of es → items_of es ≡ items → n ≡ name_of x → has_name name_of (name_of x) items ≡ false → insert_entry bytes_eq es n x ≡ es ++ (name_of x, x) ∷ []
+insert_entry-named name_of es items n x named seen named_so free =
+    ap (λ m. insert_entry bytes_eq es m x) named_so
+    ∙ insert_entry-new_name es (name_of x) x (ap (list_any (bytes_eq (name_of x))) (keys_of-named name_of es named ∙ ap (map name_of) seen) ∙ free)
 
-pub shapes_of-push : (es : List (NameOf × Shape)) (s : Shape) → shapes_of (es ++ (s.name, s) ∷ []) ≡ shapes_of es ++ s ∷ []
-shapes_of-push [] s = refl
-shapes_of-push (e ∷ es) s = ap (λ xs. e.1 ∷ xs) (shapes_of-push es s)
-
--- a name that differs from each of a list differs from that of a shape among them
-differs_from : (n : NameOf) (ss : List Shape) (k : ℕ) (s : Shape) → AllByRecursion (λ y. same_name n y ≡ false) (shape_names ss) → slice_get ss k ≡ Some s → same_name n s.name ≡ false
-differs_from n [] k s all at = cc
-differs_from n (x ∷ ss) zero s all at = let e : x ≡ s = cc in subst (λ (y : Shape). same_name n y.name ≡ false) e all.0
-differs_from n (x ∷ ss) (suc k) s all at = differs_from n ss k s all.1 at
-
-same_name-sym : (m n : NameOf) → same_name m n ≡ same_name n m
+pub same_name-sym : (m n : NameOf) → same_name m n ≡ same_name n m
 same_name-sym m n = nat_list_eq_equiv.symm m n
 
--- a name that differs from all before it is new among those
-pub new_after : (ss : List Shape) (k : ℕ) (s : Shape) → IsDistinct same_name (shape_names ss) → slice_get ss k ≡ Some s → list_any (same_name s.name) (shape_names (take k ss)) ≡ false
-new_after [] k s distinct at = cc
-new_after (x ∷ ss) zero s distinct at = refl
-new_after (x ∷ ss) (suc k) s distinct at =
-    let head = differs_from x.name ss k s (IsDistinct-head same_name x.name (shape_names ss) distinct) at in
-    let rest = new_after ss k s (IsDistinct-tail same_name x.name (shape_names ss) distinct) at in
-    ap (λ b. b || list_any (same_name s.name) (shape_names (take k ss))) (same_name-sym s.name x.name ∙ head) ∙ rest
+module _ {T : Type 0} (name_of : T → NameOf) where
+  -- a name that differs from each of a list differs from that of an item among them
+  differs_from : (n : NameOf) (xs : List T) (k : ℕ) (x : T) → AllByRecursion (λ y. same_name n y ≡ false) (map name_of xs) → slice_get xs k ≡ Some x → same_name n (name_of x) ≡ false
+  differs_from n [] k x all at = cc
+  differs_from n (y ∷ ys) zero x all at = let e : y ≡ x = cc in subst (λ z. same_name n (name_of z) ≡ false) e all.0
+  differs_from n (y ∷ ys) (suc k) x all at = differs_from n ys k x all.1 at
+
+  -- a name that differs from all before it is new among those
+  pub new_after : (xs : List T) (k : ℕ) (x : T) → IsDistinct same_name (map name_of xs) → slice_get xs k ≡ Some x → has_name name_of (name_of x) (take k xs) ≡ false
+  new_after [] k x distinct at = cc
+  new_after (y ∷ ys) zero x distinct at = refl
+  new_after (y ∷ ys) (suc k) x distinct at =
+      let head = differs_from (name_of y) ys k x (IsDistinct-head same_name (name_of y) (map name_of ys) distinct) at in
+      let rest = new_after ys k x (IsDistinct-tail same_name (name_of y) (map name_of ys) distinct) at in
+      ap (λ b. b || has_name name_of (name_of x) (take k ys)) (same_name-sym (name_of x) (name_of y) ∙ head) ∙ rest
 
 -- the elements before a place, and the one there
 pub take-next : {A : Type 0} (xs : List A) (k : ℕ) (x : A) → slice_get xs k ≡ Some x → take (k + 1) xs ≡ take k xs ++ x ∷ []

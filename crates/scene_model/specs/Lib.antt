@@ -1,5 +1,5 @@
 pub mod Diagram
 pub mod Items
 pub mod Names
-pub mod Shapes
+pub mod Naming
 pub mod Variables

@@ -1,5 +1,9 @@
 //! The items of a diagram.
-use units::Name;
+ghost use Rattle.std.specs.Prelude.{◌≡◌, IfOk};
+
+use crate::naming::HasName;
+use std::alloc::Global;
+use units::{Memory, Name};
 
 /// The outline of a shape.
 #[derive(Clone, Copy, Debug, PartialEq, Eq)]
@@ -24,6 +28,19 @@ pub struct Shape {
     pub held: bool,
     /// How often the shape was moved by an edit.
     pub moves: u32,
+}
+
+impl HasName for Shape {
+    ghost name_of = { λ s. s.name };
+
+    fn name(&self) -> Name {
+        self.name
+    }
+
+    fn copy(&self, alloc: Global) -> Result<Self, Memory> {
+        let _unused = alloc;
+        Ok(*self)
+    }
 }
 
 /// A sort of item.

@@ -2,13 +2,13 @@
 #![tactic(auto)]
 
 pub mod items;
+pub mod naming;
 pub mod scene;
-pub mod shapes;
 pub mod variables;
 
 pub use items::{Form, Item, Shape, Sort, Thing};
+pub use naming::{HasName, NamedItems};
 pub use scene::Scene;
-pub use shapes::Shapes;
 pub use variables::{Variable, VariableName};
 
 #[cfg(test)]

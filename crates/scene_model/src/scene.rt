@@ -1,13 +1,17 @@
 //! A scene.
-ghost use Rattle.std.specs.Prelude.{◌≡◌, ◌<◌, ◌++◌, ◌∷◌, [], false, Some, None, IfOk, OnOk, OnErr, length, slice_get, is_some, position, IfSome};
+ghost use Rattle.std.specs.Prelude.{◌≡◌, ◌<◌, ◌≤◌, ◌++◌, ◌∷◌, [], true, false, Some, None, IsSome, IfOk, OnOk, OnErr, length, slice_get, is_some, position, IfSome};
+ghost use Rattle.std.specs.List.{insert, remove};
 ghost use Rattle.scene_model.specs.declared.variables.Variable.{Variable as VariableValue};
 ghost use Rattle.scene_model.specs.declared.variables.VariableName.TheVariants.{OfItem};
 ghost use Rattle.scene_model.specs.Diagram.{IsWellFormed, IsShape, most_shapes, empty_diagram};
-ghost use Rattle.scene_model.specs.Items.{stands, count_of, item_named, variable_number, name_of_thing, with_thing, IsThing, HasRoomFor};
+ghost use Rattle.scene_model.specs.Items.{stands, count_of, item_named, variable_number, name_of_thing, sort_of, sort_named, thing_at, with_thing, with_replaced, without_at, without, with_thing_at, IsThing, HasRoomFor};
+ghost use Rattle.scene_model.specs.declared.items.Shape.{Shape as ShapeValue};
+ghost use Rattle.scene_model.specs.declared.items.Thing.TheVariants.{Shape as ThingShape};
+ghost use Rattle.scene_model.specs.Naming.{has_name};
 ghost use Rattle.scene_model.specs.Variables.{variables, same_variable, shape_variable};
 
 use crate::items::{Item, Shape, Sort, Thing};
-use crate::shapes::Shapes;
+use crate::naming::NamedItems;
 use crate::variables::{Variable, VariableName};
 use std::alloc::Global;
 use std::marker::Model;
@@ -17,7 +21,7 @@ use units::{Axis, Memory, Name};
 /// numbers lie in their ranges, and counts within the limits. Contracts see it as a diagram.
 #[derive(Drop)]
 pub struct Scene {
-    shapes: Shapes,
+    shapes: NamedItems<Shape>,
 }
 
 impl Model for Scene {
@@ -36,7 +40,7 @@ impl Scene {
         ensures { result ≡ empty_diagram }
     {
         Scene {
-            shapes: Shapes::new(alloc),
+            shapes: NamedItems::new(alloc),
         }
     }
 
@@ -130,6 +134,95 @@ impl Scene {
         ensures unchanged { OnErr result (self.new ≡ self.old) }
     {
         self.shapes.push(shape)?;
+        Ok(())
+    }
+
+    /// Puts the item in the place of the one of its name, which stands as the same sort: `lookup` tells. The scene is
+    /// sound afterwards.
+    pub fn set(&mut self, thing: Thing)
+        requires stands { sort_named self.old (name_of_thing thing) ≡ Some (sort_of thing) }
+        requires sound { IsWellFormed (with_replaced self.old thing) }
+        ensures { self.new ≡ with_replaced self.old thing }
+    {
+        match thing {
+            Thing::Shape(shape) => self.set_shape(shape),
+        }
+    }
+
+    fn set_shape(&mut self, shape: Shape)
+        requires stands { has_name (λ (s : ShapeValue). s.name) shape.name self.old.shapes ≡ true }
+        requires sound { IsWellFormed (with_replaced self.old (ThingShape shape)) }
+        ensures { self.new ≡ with_replaced self.old (ThingShape shape) }
+    {
+        self.shapes.set(shape);
+    }
+
+    /// Takes the item of this name out, which stands: `lookup` tells. It gives its number among those of its sort, and
+    /// the item; those behind it in its list move up. `put_back` of both gives the scene as it was. The scene is sound
+    /// afterwards.
+    pub fn take(&mut self, name: &Name) -> (u16, Thing)
+        requires stands { stands self.old name.now ≡ true }
+        requires sound { IsWellFormed (without self.old name.now) }
+        ensures number { item_named self.old name.now ≡ Some (record { sort = sort_of result.1; at = result.0 }) }
+        ensures taken { thing_at self.old (sort_of result.1) result.0 ≡ Some result.1 }
+        ensures named { name_of_thing result.1 ≡ name.now }
+        ensures others { self.new ≡ without self.old name.now }
+        ensures free { stands self.new name.now ≡ false }
+        ensures back { with_thing_at self.new result.0 result.1 ≡ self.old }
+    {
+        let item = self.lookup(name).unwrap();
+        // The names differ, which `count` tells.
+        let _count = self.count(item.sort);
+        let thing = self.take_at(item);
+        (item.at, thing)
+    }
+
+    fn take_at(&mut self, item: Item) -> Thing
+        requires stands { IsSome (thing_at self.old item.sort item.at) }
+        requires sound { IsWellFormed (without_at self.old item.sort item.at) }
+        ensures sort { sort_of result ≡ item.sort }
+        ensures taken { thing_at self.old item.sort item.at ≡ Some result }
+        ensures others { self.new ≡ without_at self.old item.sort item.at }
+    {
+        match item.sort {
+            Sort::Shape => Thing::Shape(self.take_shape(item.at)),
+        }
+    }
+
+    fn take_shape(&mut self, at: u16) -> Shape
+        requires stands { at < length self.old.shapes }
+        requires sound { IsWellFormed (record self.old { shapes = remove self.old.shapes at }) }
+        ensures taken { slice_get self.old.shapes at ≡ Some result }
+        ensures others { self.new ≡ record self.old { shapes = remove self.old.shapes at } }
+    {
+        self.shapes.take(at as usize).unwrap()
+    }
+
+    /// Puts an item back at this number among those of its sort, which is at most `count`; those from there on move
+    /// down. Its name is new, which `lookup` tells, and the scene is sound afterwards. `take` of its name gives the
+    /// scene as it was. After want of memory the scene is as before.
+    pub fn put_back(&mut self, at: u16, thing: Thing) -> Result<(), Memory>
+        requires within { at ≤ count_of self.old (sort_of thing) }
+        requires free { stands self.old (name_of_thing thing) ≡ false }
+        requires sound { IsWellFormed (with_thing_at self.old at thing) }
+        ensures added { OnOk result (self.new ≡ with_thing_at self.old at thing) }
+        ensures back { OnOk result (without self.new (name_of_thing thing) ≡ self.old) }
+        ensures unchanged { OnErr result (self.new ≡ self.old) }
+    {
+        match thing {
+            Thing::Shape(shape) => self.put_shape_back(at, shape),
+        }
+    }
+
+    fn put_shape_back(&mut self, at: u16, shape: Shape) -> Result<(), Memory>
+        requires within { at ≤ length self.old.shapes }
+        requires free { stands self.old shape.name ≡ false }
+        requires sound { IsWellFormed (record self.old { shapes = insert self.old.shapes at shape }) }
+        ensures added { OnOk result (self.new ≡ record self.old { shapes = insert self.old.shapes at shape }) }
+        ensures back { OnOk result (without self.new shape.name ≡ self.old) }
+        ensures unchanged { OnErr result (self.new ≡ self.old) }
+    {
+        self.shapes.put_back(at as usize, shape)?;
         Ok(())
     }
 
