@@ -38,7 +38,7 @@ impl Model for Book {
 }
 
 impl Book {
-    /// The document without entries, with a budget of frames before End: at most 512.
+    /// The document without entries, with a budget of frames before End: at most `MOST_FRAMES`, 512.
     pub fn new(alloc: Global, frames: u32) -> Book
         requires { frames ≤ 512 }
         ensures { result ≡ record { history = []; budget = frames } }

@@ -102,9 +102,9 @@ impl Book {
         }
     }
 
-    /// One step of finishing the document, which was ended: Settled exactly where the last entry is a frame that
-    /// changed no place; Full exactly where not so and 64 frames stand after End; else a frame by caller 0 with
-    /// line 0 is entered, or Memory.
+    /// One step of finishing the document, which was ended: `end` has answered with the place of End, or Ended.
+    /// Settled exactly where the last entry is a frame that changed no place; Full exactly where not so and 64 frames
+    /// stand after End; else a frame by caller 0 with line 0 is entered, or Memory.
     pub fn finish(&mut self, alloc: Global) -> Finish
         requires { IsSome (end_place self.old.history) }
         ensures { IsFinishStep self.old self.new result }

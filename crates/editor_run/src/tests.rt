@@ -1,5 +1,5 @@
 //! What no clause says: worked scripts from bytes to bytes, statuses with their texts, and one failing call of each end.
-use crate::{Outcome, run};
+use crate::{Outcome, Plan, run, run_alone};
 use byte_edge::{MemSink, MemSource, StdSink, StdSource, SureSink, SureSource};
 use std::alloc::Global;
 use std::io;
@@ -39,6 +39,27 @@ fn worked_scripts(rt: HostRuntime) -> Result<(), Fail> {
         assert_eq!(rt; outcome.status, 0);
         assert_eq!(rt; sink.bytes(), listing);
     }
+    Ok(())
+}
+
+// Without a budget each layout is spent, and the one frame is that behind End.
+const NO_FRAMES_LISTING: &[u8] =
+    b"listing 1\n0 1 2 box a 3 4 40 20\n1 0 0 end\n2 0 0 frame\nx a 3 3\ny a 4 4\nreplies\n1 2 box a 3 4 40 20 = accepted 0\n1 3 layout = spent 1\n1 4 layout = spent 1\ndone\n";
+
+#[test]
+fn no_frames(rt: HostRuntime) -> Result<(), Fail> {
+    let alloc = rt.alloc();
+    let plan = Plan {
+        workers: 0,
+        frames: 0,
+        svg: false,
+        made: None,
+    };
+    let mut source = SureSource::new(FIRST_BOX.to_vec(alloc)?);
+    let mut sink = SureSink::new(alloc);
+    let outcome = run_alone(&rt, plan, &mut source, &mut sink);
+    assert_eq!(rt; outcome.status, 0);
+    assert_eq!(rt; sink.bytes(), NO_FRAMES_LISTING);
     Ok(())
 }
 
