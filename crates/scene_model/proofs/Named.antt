@@ -1,8 +1,4 @@
-<<<<<<< HEAD
--- Shapes under their names: numbers, new names, copies.
-=======
 -- Items under their names: numbers, new names, copies.
->>>>>>> 909f6acf76abc29a60e67b33993c2b68f3ba275c
 use Rattle.std.proofs.Common.{◌≡◌, ◌+◌, ◌<◌, ℕ, List, [], ◌∷◌, ◌++◌, Bool, true, false, cond, ◌||◌, length, map, refl, ap, sym, ◌∙◌, arith, take, slice_get, Some, None, zero, suc, subst, add-one}
 use Rattle.std.specs.Prelude.{bytes_eq, position, nat_lt}
 use Rattle.std.specs.List.{position_or_len, list_any, IsDistinct, AllByRecursion}

@@ -1,14 +1,4 @@
 -- A sound diagram stays sound.
-<<<<<<< HEAD
-use Rattle.std.proofs.Common.{◌≡◌, ◌<◌, List, [], ◌∷◌, ◌++◌, false, length, refl, ap, arith}
-use Rattle.std.specs.List.{list_any, AllByRecursion}
-use Rattle.std.specs.Cmp.Lexicographic.{nat_list_eq_equiv}
-use Rattle.std.proofs.lemmas.Map.Keys.{IsDistinct-push}
-use Rattle.std.proofs.lemmas.List.{length-append}
-use Rattle.scene_model.specs.declared.items.Shape.{Shape}
-use Rattle.scene_model.specs.Names.{same_name}
-use Rattle.scene_model.specs.Diagram.{IsWellFormed, IsShape, shape_names, most_shapes}
-=======
 use Rattle.std.proofs.Common.{◌≡◌, ℕ, false, length, Option, Some, None, ap, sym, arith, subst}
 use Rattle.std.specs.List.{IsDistinct}
 use Rattle.std.specs.Option.{option_map_or}
@@ -25,7 +15,6 @@ use Rattle.scene_model.specs.Naming.{replaced}
 use Rattle.scene_model.specs.Diagram.{Diagram, IsWellFormed, IsShape, shape_names}
 use Rattle.scene_model.specs.Items.{stands, count_of, name_of_thing, sort_of, IsThing, HasRoomFor, with_thing, with_replaced, without_at, without, item_named, with_thing_at}
 use Rattle.scene_model.proofs.Changes.{map-insert, map-remove, map-replaced, All-insert, All-remove, All-replaced, length-insert, length-remove, IsDistinct-insert, IsDistinct-remove}
->>>>>>> 909f6acf76abc29a60e67b33993c2b68f3ba275c
 
 -- with one more item of a new name, for which there is room
 pub IsWellFormed-put_back : (d : Diagram) (at : ℕ) (t : Thing) → IsWellFormed d → stands d (name_of_thing t) ≡ false → IsThing t → HasRoomFor d t → IsWellFormed (with_thing_at d at t)

@@ -1,15 +1,6 @@
-<<<<<<< HEAD
-use Rattle.std.proofs.Common.{◌≡◌, ap, ◌∙◌, sym, subst}
-use Rattle.std.specs.List.{list_any}
-use Rattle.scene_model.specs.declared.items.Shape.{Shape}
-use Rattle.std.specs.Prelude.{List}
-use Rattle.scene_model.specs.Names.{same_name}
-use Rattle.scene_model.specs.Diagram.{Diagram, IsWellFormed, names_of}
-=======
 use Rattle.std.proofs.Common.{ap, ◌∙◌, sym, subst, ◌++◌, ◌∷◌, []}
 use Rattle.scene_model.specs.declared.items.Thing.TheVariants as thing
 use Rattle.scene_model.specs.Diagram.{Diagram, IsWellFormed}
->>>>>>> 909f6acf76abc29a60e67b33993c2b68f3ba275c
 use Rattle.scene_model.proofs.Sound.{IsWellFormed-push}
 use Rattle.scene_model.proofs.scene.Scene.add_shape.Goals as goal
 
