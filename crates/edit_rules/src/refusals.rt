@@ -15,6 +15,8 @@ pub enum Counted {
 pub enum Refusal {
     /// A number of the edit, the first outside its range.
     Range { value: i32 },
+    /// The name must stand, and doesn't.
+    Unknown { name: Name },
     /// The new name stands already.
     Taken { name: Name },
     /// So many stand already, and no more may.
