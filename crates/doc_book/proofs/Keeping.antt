@@ -1,14 +1,15 @@
 -- What the book keeps, through one entry more.
 use Rattle.std.proofs.Common.{◌≡◌, ◌+◌, ◌<◌, ℕ, List, [], ◌∷◌, ◌++◌, Bool, true, false, cond, Option, Some, None, length, map, refl, ap, sym, ◌∙◌, subst, arith, zero, suc, ℤ}
 use Rattle.std.proofs.lemmas.Bool.{false≢true}
-use Rattle.std.specs.Prelude.{◌↔◌, IsTrue, MatchOption}
+use Rattle.std.specs.Prelude.{◌↔◌, IsTrue, MatchOption, fold}
 use Rattle.std.proofs.lemmas.List.{length-append, length-map}
 use Rattle.units.specs.declared.geometry.Axis.{Axis}
 use Rattle.units.specs.declared.geometry.Axis.TheVariants.{X, Y}
-use Rattle.scene_model.specs.Diagram.{Diagram}
+use Rattle.scene_model.specs.Diagram.{Diagram, empty_diagram}
 use Rattle.scene_model.specs.Variables.{variables}
 use Rattle.edit_rules.specs.declared.edits.Edit.{Edit}
-use Rattle.edit_rules.specs.Effects.{edited, scene_of}
+use Rattle.edit_rules.specs.Effects.{edited, scene_of, HasFewMoves}
+use Rattle.edit_rules.proofs.Changing.{HasFewMoves-scene_of, HasFewMoves-weaker}
 use Rattle.frac128.specs.Fraction.{floor_of}
 use Rattle.multiplier_check.specs.declared.certificate.Certificate.{Certificate}
 use Rattle.frame_store.specs.declared.places.Places.{Places}
@@ -19,7 +20,7 @@ use Rattle.doc_book.specs.declared.entries.Entry.{Entry}
 use Rattle.doc_book.specs.declared.entries.Act.TheVariants as act
 use Rattle.doc_book.specs.Frames.{IsFrameOf}
 use Rattle.doc_book.specs.Growing.{entry_of}
-use Rattle.doc_book.specs.History.{standing, scene_at, places_at, is_end, is_frame, end_place, after_end, frame_count}
+use Rattle.doc_book.specs.History.{edits_after, standing, scene_at, places_at, is_end, is_frame, end_place, after_end, frame_count}
 use Rattle.doc_book.specs.Kept.{IsKept, IsOpenCount, IsEndedCount}
 use Rattle.doc_book.specs.Legal.{HasRoom}
 use Rattle.doc_book.specs.Projection.{IsShown}
@@ -32,6 +33,31 @@ frame_count-push h e = fold-push (λ n (x : Entry). n + cond (is_frame x) 1 0) 0
 
 length-push : (h : List Entry) (e : Entry) → length (h ++ e ∷ []) ≡ length h + 1
 length-push h e = length-append h (e ∷ [])
+
+-- there are at most as many standing edits as entries
+standing-short : (h : List Entry) → length (standing h) ≤ length h
+standing-short h = along h []
+  where
+    one : (edits : List Edit) (a : Act) → length (edits_after edits a) ≤ length edits + 1
+    one edits (act.Edit e) = omega (arith, length-append edits (e ∷ []))
+    one edits (act.Frame f) = omega arith
+    one edits act.End = omega arith
+
+    along : (es : List Entry) (edits : List Edit) → length (fold (λ kept (e : Entry). edits_after kept e.act) edits es) ≤ length edits + length es
+    along [] edits = omega arith
+    along (e ∷ es) edits = let more = along es (edits_after edits e.act) in omega (arith, more, one edits e.act)
+
+-- no shape of a history was moved more often than there are entries
+pub few_moves_at : (h : List Entry) (n : ℕ) → length h ≤ n → HasFewMoves n (scene_at h)
+few_moves_at h n le =
+    let short = standing-short h in
+    HasFewMoves-weaker (0 + length (standing h)) n (scene_at h) (omega (arith, short, le)) (HasFewMoves-scene_of 0 (standing h) empty_diagram tt)
+
+-- a shape of the book can be moved once more
+pub few_moves : (h : List Entry) (budget : ℕ) (scene : Diagram) (places : Places) (settled : Bool) → IsKept h budget scene places settled → end_place h ≡ None → HasFewMoves 4294967294 scene
+few_moves h budget scene places settled k open_history =
+    let counts = subst (λ o. MatchOption o (IsOpenCount h budget) (λ _. IsEndedCount h budget)) open_history k.counts in
+    subst (HasFewMoves 4294967294) (sym k.scene_is) (few_moves_at h 4294967294 (omega (arith, counts.frames, counts.entries, k.budget_small)))
 
 -- an edit that the history accepts
 pub IsKept-edit : (h : List Entry) (budget : ℕ) (scene : Diagram) (places : Places) (settled : Bool) (who line : ℕ) (e : Edit) (scene' : Diagram) (places' : Places)

@@ -100,6 +100,7 @@ counted_word counted.Entries = codes "entries"
 -- a refusal for want of memory ends the run and has no text
 abbrev pub refusal_words : Refusal → List Word
 refusal_words (refusal.Range value) = codes "range" ∷ signed_decimal value ∷ []
+refusal_words (refusal.Unknown name) = codes "unknown" ∷ name ∷ []
 refusal_words (refusal.Taken name) = codes "taken" ∷ name ∷ []
 refusal_words (refusal.Limit what count) = codes "limit" ∷ counted_word what ∷ decimal count ∷ []
 refusal_words (refusal.Ended place) = codes "ended" ∷ decimal place ∷ []

@@ -8,7 +8,7 @@ mod rules;
 
 pub use edits::Edit;
 pub use refusals::{Counted, Refusal};
-pub use rules::{apply, check};
+pub use rules::{apply, check, has_moves_left};
 
 #[cfg(test)]
 mod tests;

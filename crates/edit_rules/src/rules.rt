@@ -1,5 +1,5 @@
 //! The refusals of a scene, and the edited scene.
-ghost use Rattle.std.specs.Prelude.{◌≡◌, ◌≤◌, ℕ, true, None, Some, MatchResult, OnOk, OnErr, find, ◌∷◌, []};
+ghost use Rattle.std.specs.Prelude.{◌≡◌, ◌↔◌, ◌≤◌, ℕ, IsTrue, true, None, Some, MatchResult, OnOk, OnErr, find, ◌∷◌, []};
 ghost use Rattle.std.specs.Option.{option_map};
 ghost use Rattle.edit_rules.specs.Ranges.{coordinate, extent, is_outside};
 ghost use Rattle.scene_model.specs.declared.items.Thing.TheVariants.{Shape as ThingShape};
@@ -186,8 +186,20 @@ fn set(scene: &mut Scene, shape: Shape)
     scene.set(Thing::Shape(shape));
 }
 
-/// Edits the scene, which accepts the edit: `check` tells. No shape was moved 2^32 - 1 times, as in a scene that fewer
-/// edits have made. After want of memory the scene is as before.
+/// Whether no shape of the scene was moved 2^32 - 1 times. After fewer edits than that it is so.
+pub fn has_moves_left(scene: &Scene) -> bool
+    ensures { IsTrue result ↔ HasFewMoves 4294967294 scene.now }
+{
+    for at in 0..scene.count(Sort::Shape) {
+        if scene.shape(at).moves == u32::MAX {
+            return false;
+        }
+    }
+    true
+}
+
+/// Edits the scene, which accepts the edit: `check` tells. No shape was moved 2^32 - 1 times: `has_moves_left` tells.
+/// After want of memory the scene is as before.
 pub fn apply(scene: &mut Scene, edit: Edit) -> Result<(), Memory>
     requires accepted { refusal_of scene.old edit ≡ None }
     requires few { HasFewMoves 4294967294 scene.old }

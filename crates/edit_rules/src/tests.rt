@@ -1,5 +1,5 @@
 //! What no clause says: that with ample memory edits are copied and applied; and each refusal of a scene.
-use crate::{Counted, Edit, Refusal, apply, check};
+use crate::{Counted, Edit, Refusal, apply, check, has_moves_left};
 use scene_model::{Form, Scene, Shape, Sort};
 use std::test::Fail;
 use units::{Memory, Name};
@@ -20,6 +20,9 @@ fn put(name: Name, x: i32, y: i32, w: i32, h: i32) -> Edit {
 fn play(scene: &mut Scene, edit: Edit) -> Result<Option<Refusal>, Memory> {
     if let Err(refusal) = check(scene, &edit) {
         return Ok(Some(refusal));
+    }
+    if !has_moves_left(scene) {
+        return Err(Memory);
     }
     apply(scene, edit)?;
     Ok(None)
@@ -56,6 +59,70 @@ fn edits_are_applied(rt: HostRuntime) -> Result<(), Fail> {
             moves: 0,
         }
     );
+    Ok(())
+}
+
+#[test]
+fn shapes_are_changed(rt: HostRuntime) -> Result<(), Fail> {
+    let name = Name::of(b"a").ok_or("a name")?;
+    let mut scene = Scene::empty(rt.alloc());
+    assert!(rt; play(&mut scene, put(name, 1, 2, 3, 4))?.is_none());
+    // A move is counted also where the corner stays. A size leaves the count, and a hold holds once and for all.
+    for edit in [
+        Edit::Move { name, x: 5, y: 6 },
+        Edit::Move { name, x: 5, y: 6 },
+        Edit::Size { name, w: 7, h: 8 },
+        Edit::Hold { name },
+        Edit::Hold { name },
+    ] {
+        assert!(rt; play(&mut scene, edit.copy(rt.alloc())?)?.is_none());
+    }
+    assert!(rt; scene.count(Sort::Shape) == 1);
+    let changed = Shape {
+        name,
+        form: Form::Box,
+        x: 5,
+        y: 6,
+        w: 7,
+        h: 8,
+        held: true,
+        moves: 2,
+    };
+    assert_eq!(rt; *scene.shape(0), changed);
+    assert!(rt; play(&mut scene, Edit::Free { name })?.is_none());
+    assert!(rt; scene.count(Sort::Shape) == 1);
+    assert!(rt; !scene.shape(0).held);
+    assert!(rt; play(&mut scene, Edit::Remove { name })?.is_none());
+    assert_eq!(rt; scene.count(Sort::Shape), 0);
+    Ok(())
+}
+
+#[test]
+fn changed_shapes_stand(rt: HostRuntime) -> Result<(), Fail> {
+    let name = Name::of(b"a").ok_or("a name")?;
+    let mut scene = Scene::empty(rt.alloc());
+    for edit in [
+        Edit::Size { name, w: 1, h: 1 },
+        Edit::Move { name, x: 0, y: 0 },
+        Edit::Hold { name },
+        Edit::Free { name },
+        Edit::Remove { name },
+    ] {
+        let refusal = play(&mut scene, edit.copy(rt.alloc())?)?;
+        assert!(rt; refusal == Some(Refusal::Unknown { name }));
+    }
+    // A number outside its range comes before the name.
+    let refusal = play(&mut scene, Edit::Size { name, w: 1, h: 0 })?;
+    assert!(rt; refusal == Some(Refusal::Range { value: 0 }));
+    let refusal = play(
+        &mut scene,
+        Edit::Move {
+            name,
+            x: 1_000_001,
+            y: 0,
+        },
+    )?;
+    assert!(rt; refusal == Some(Refusal::Range { value: 1_000_001 }));
     Ok(())
 }
 
