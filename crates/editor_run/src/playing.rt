@@ -54,12 +54,7 @@ fn play_next(
     ensures { OnOk result ((reply : ReplyValue) × PlaysLine book.old book.new line.now reply
         × (lists.new.items ≡ with_reply lists.old.items line.now.session reply)) }
 {
-    play_line(
-        alloc,
-        book,
-        line,
-        &mut lists[usize::from(line.session) - 1],
-    )
+    play_line(alloc, book, line, &mut lists[usize::from(line.session) - 1])
 }
 
 /// Plays the lines in order, each for its session, from the empty history on, and gives the replies of each of the

@@ -71,7 +71,7 @@ third n = record { num = n; den = 3 }
 -- three boxes at 0, 0 and 1, each to stand 5 behind the one before it
 chain_of_three : text_lines
     (certificate_lines X (record { shapes = box_at (codes "a") (pos 0) ∷ box_at (codes "b") (pos 0) ∷ box_at (codes "c") (pos 1) ∷ [] }) (pos 0 ∷ pos 0 ∷ pos 1 ∷ [])
-        (record { places = third (negsuc 13) ∷ third (pos 1) ∷ third (pos 16) ∷ []; multipliers = third (pos 28) ∷ third (pos 26) ∷ [] }))
+    (record { places = third (negsuc 13) ∷ third (pos 1) ∷ third (pos 16) ∷ []; multipliers = third (pos 28) ∷ third (pos 26) ∷ [] }))
     ≡ codes "x a 0 -14/3\nx b 0 1/3\nx c 1 16/3\nx #0 28/3\nx #1 26/3\n"
 unfolding digits
 chain_of_three = refl
@@ -79,7 +79,7 @@ chain_of_three = refl
 -- three boxes at 0: one separation isn't tight, so its multiplier is 0 and has no line
 one_of_two : text_lines
     (certificate_lines X (record { shapes = box_at (codes "a") (pos 0) ∷ box_at (codes "b") (pos 0) ∷ box_at (codes "c") (pos 0) ∷ [] }) (pos 0 ∷ pos 0 ∷ pos 0 ∷ [])
-        (record { places = whole (pos 0) ∷ whole (pos 5) ∷ whole (negsuc 4) ∷ []; multipliers = whole (pos 0) ∷ whole (pos 10) ∷ [] }))
+    (record { places = whole (pos 0) ∷ whole (pos 5) ∷ whole (negsuc 4) ∷ []; multipliers = whole (pos 0) ∷ whole (pos 10) ∷ [] }))
     ≡ codes "x a 0 0\nx b 0 5\nx c 0 -5\nx #1 10\n"
 unfolding digits
 one_of_two = refl
