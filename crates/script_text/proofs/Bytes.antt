@@ -7,14 +7,13 @@ use Rattle.std.specs.Str.{all_ascii_digits}
 use Rattle.std.proofs.lemmas.Bool.{and_parts, and_from, or_cases, le-leb, leb-true, ne_eqb, eqb-true}
 use Rattle.std.proofs.lemmas.List.Elements.{All-from_recursion}
 use Rattle.units.specs.Name.{is_name, is_name_byte, is_letter, is_digit}
-use Rattle.scene_model.specs.declared.items.Form.TheVariants as form
-use Rattle.edit_rules.specs.declared.edits.Edit.{Edit}
-use Rattle.edit_rules.specs.declared.edits.Edit.TheVariants as edit
 use Rattle.script_text.specs.declared.scripts.Command.{Command}
-use Rattle.script_text.specs.declared.scripts.Command.TheVariants as command
 use Rattle.script_text.specs.declared.scripts.Line.{Line}
 use Rattle.script_text.specs.Words.{Word, spaced}
-use Rattle.script_text.specs.Commands.{Field, NameField, NumberField, edit_word, command_word, command_fields, fields_words, AreFields, IsCommand, command_words}
+use Rattle.script_text.specs.Keywords.{keyword_word}
+use Rattle.script_text.specs.declared.keywords.Keyword.{Keyword}
+use Rattle.script_text.specs.declared.keywords.Keyword.TheVariants as keyword
+use Rattle.script_text.specs.Commands.{Field, NameField, NumberField, command_keyword, command_fields, fields_words, AreFields, IsCommand, command_words}
 use Rattle.script_text.specs.Scripts.{line_text}
 use Rattle.script_text.proofs.Numerals.{decimal_is}
 use Rattle.script_text.proofs.WholeLines.{Lacks, AllLack, line_text-digit}
@@ -53,12 +52,29 @@ number_above (negsuc n) lt = digits_above (decimal (suc n)) (decimal_is (suc n) 
 
 -- ---- the table, a line for each command
 
-edit_above : (e : Edit) → above (edit_word e) ≡ true
-edit_above (edit.Put n form.Box x y w h) = refl
-
-command_above : (c : Command) → above (command_word c) ≡ true
-command_above (command.Edit e) = edit_above e
-command_above command.Layout = refl
+keyword_above : (k : Keyword) → above (keyword_word k) ≡ true
+keyword_above keyword.Box = refl
+keyword_above keyword.Oval = refl
+keyword_above keyword.Diamond = refl
+keyword_above keyword.Size = refl
+keyword_above keyword.Move = refl
+keyword_above keyword.Shift = refl
+keyword_above keyword.Hold = refl
+keyword_above keyword.Free = refl
+keyword_above keyword.Remove = refl
+keyword_above keyword.Link = refl
+keyword_above keyword.Unlink = refl
+keyword_above keyword.Guide = refl
+keyword_above keyword.Align = refl
+keyword_above keyword.Spread = refl
+keyword_above keyword.Rank = refl
+keyword_above keyword.Apart = refl
+keyword_above keyword.Group = refl
+keyword_above keyword.Page = refl
+keyword_above keyword.Drop = refl
+keyword_above keyword.Undo = refl
+keyword_above keyword.Layout = refl
+keyword_above keyword.Where = refl
 
 -- ---- all words of a command
 
@@ -75,7 +91,7 @@ all_lack by lt [] h = tt
 all_lack by lt (w ∷ ws) h = (All-from_recursion (λ b. eqb b by ≡ false) w (lacks by lt w h.0), all_lack by lt ws h.1)
 
 pub command_lacks : (by : ℕ) → by < 45 → (c : Command) → IsCommand c → AllLack by (command_words c)
-command_lacks by lt c h = all_lack by lt (command_words c) (command_above c, fields_above (command_fields c) h)
+command_lacks by lt c h = all_lack by lt (command_words c) (keyword_above (command_keyword c), fields_above (command_fields c) h)
 
 append_rec : (a b : List ℕ) → AllByRecursion (λ c. eqb c 10 ≡ false) a → AllByRecursion (λ c. eqb c 10 ≡ false) b → AllByRecursion (λ c. eqb c 10 ≡ false) (a ++ b)
 append_rec [] b h g = g
@@ -88,4 +104,4 @@ join_lacks (w ∷ []) h = lacks 10 (omega arith) w h.0
 join_lacks (w ∷ v ∷ ws) h = append_rec w (32 ∷ spaced (v ∷ ws)) (lacks 10 (omega arith) w h.0) (ne_eqb 32 10 (λ e. omega arith), join_lacks (v ∷ ws) h.1)
 
 pub line_lacks : (l : Line) → 1 ≤ l.session → l.session ≤ 8 → IsCommand l.command → Lacks 10 (line_text l)
-line_lacks l low high h = rw (line_text-digit l high) (All-from_recursion (λ b. eqb b 10 ≡ false) ((48 + l.session) ∷ 32 ∷ spaced (command_words l.command)) (ne_eqb _ _ (λ e. omega arith), (ne_eqb 32 10 (λ e. omega arith), join_lacks (command_words l.command) (command_above l.command, fields_above (command_fields l.command) h))))
+line_lacks l low high h = rw (line_text-digit l high) (All-from_recursion (λ b. eqb b 10 ≡ false) ((48 + l.session) ∷ 32 ∷ spaced (command_words l.command)) (ne_eqb _ _ (λ e. omega arith), (ne_eqb 32 10 (λ e. omega arith), join_lacks (command_words l.command) (keyword_above (command_keyword l.command), fields_above (command_fields l.command) h))))

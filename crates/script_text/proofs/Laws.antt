@@ -8,8 +8,9 @@ use Rattle.script_text.specs.declared.scripts.Command.{Command}
 use Rattle.script_text.specs.declared.scripts.Command.TheVariants as command
 use Rattle.script_text.specs.Words.{Word}
 use Rattle.script_text.specs.Numbers.{number_of}
-use Rattle.script_text.specs.Commands.{Field, NameField, NumberField, edit_word, edit_fields, command_word, command_fields, field_words, fields_words, IsField, AreFields}
-use Rattle.script_text.specs.Reading.{Slot, NameSlot, NumberSlot, ◌>>=◌, word_field, field_at, ends_at, fields_at, slots_for}
+use Rattle.script_text.specs.Keywords.{is_built}
+use Rattle.script_text.specs.Commands.{Field, NameField, NumberField, edit_keyword, edit_fields, command_keyword, command_fields, field_words, fields_words, IsField, AreFields}
+use Rattle.script_text.specs.Reading.{Slot, NameSlot, NumberSlot, ◌>>=◌, word_field, field_at, ends_at, fields_at, slots}
 use Rattle.script_text.proofs.Numerals.{number_sound, number_again}
 
 -- a step that gave a value
@@ -85,11 +86,18 @@ fields_again (NumberField z ∷ fs) h = rw (number_again z h.0, fields_again fs 
 
 -- ---- the table, a line for each command
 
-edit_slots : (e : Edit) → slots_for (edit_word e) ≡ Some (map slot_of (edit_fields e))
+edit_slots : (e : Edit) → slots (edit_keyword e) ≡ map slot_of (edit_fields e)
 unfolding slot_of
 edit_slots (edit.Put n form.Box x y w h) = refl
 
-pub slots_again : (c : Command) → slots_for (command_word c) ≡ Some (map slot_of (command_fields c))
+pub slots_again : (c : Command) → slots (command_keyword c) ≡ map slot_of (command_fields c)
 unfolding slot_of
 slots_again (command.Edit e) = edit_slots e
 slots_again command.Layout = refl
+
+edit_built : (e : Edit) → is_built (edit_keyword e) ≡ true
+edit_built (edit.Put n form.Box x y w h) = refl
+
+pub built_again : (c : Command) → is_built (command_keyword c) ≡ true
+built_again (command.Edit e) = edit_built e
+built_again command.Layout = refl

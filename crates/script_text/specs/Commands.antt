@@ -1,6 +1,6 @@
 -- The commands of a script (they are this project's own): for each command its word and its fields, in the order
 -- of its line, and with them the words of its text.
-use Rattle.std.specs.Prelude.{◌≡◌, ◌<◌, ◌^◌, ℤ, nat_abs, List, [], ◌∷◌, ◌++◌, codes, true, ⊤}
+use Rattle.std.specs.Prelude.{◌≡◌, ◌<◌, ◌^◌, ℤ, nat_abs, List, [], ◌∷◌, ◌++◌, true, ⊤}
 use Rattle.std.specs.Fmt.{signed_decimal}
 use Rattle.units.specs.Name.{is_name}
 use Rattle.scene_model.specs.declared.items.Form.{Form}
@@ -10,6 +10,9 @@ use Rattle.edit_rules.specs.declared.edits.Edit.TheVariants as edit
 use Rattle.script_text.specs.declared.scripts.Command.{Command}
 use Rattle.script_text.specs.declared.scripts.Command.TheVariants as command
 use Rattle.script_text.specs.Words.{Word}
+use Rattle.script_text.specs.Keywords.{keyword_word}
+use Rattle.script_text.specs.declared.keywords.Keyword.{Keyword}
+use Rattle.script_text.specs.declared.keywords.Keyword.TheVariants as keyword
 
 -- a field of a command: a name, or a number
 pub data Field : Type 0 where
@@ -18,27 +21,34 @@ pub data Field : Type 0 where
 
 -- ---- the table: the word of each command, and its fields
 
--- the word that puts a shape of the form
-abbrev pub form_word : Form → Word
-form_word form.Box = codes "box"
+-- the command that puts a shape of the form
+abbrev pub form_keyword : Form → Keyword
+form_keyword form.Box = keyword.Box
 
--- the word of an edit: that of the form of its shape
-abbrev pub edit_word : Edit → Word
-edit_word (edit.Put n f x y w h) = form_word f
+-- the command of an edit: that of the form of its shape
+abbrev pub edit_keyword : Edit → Keyword
+edit_keyword (edit.Put n f x y w h) = form_keyword f
 
 -- the fields of an edit: the name, the place on X and on Y, the width and the height
 abbrev pub edit_fields : Edit → List Field
 edit_fields (edit.Put n f x y w h) = NameField n ∷ NumberField x ∷ NumberField y ∷ NumberField w ∷ NumberField h ∷ []
 
--- the word of a command
-abbrev pub command_word : Command → Word
-command_word (command.Edit e) = edit_word e
-command_word command.Layout = codes "layout"
+-- the keyword of a command
+abbrev pub command_keyword : Command → Keyword
+command_keyword (command.Edit e) = edit_keyword e
+command_keyword command.Layout = keyword.Layout
 
 -- the fields of a command; a layout has none
 abbrev pub command_fields : Command → List Field
 command_fields (command.Edit e) = edit_fields e
 command_fields command.Layout = []
+
+-- the word of an edit, and of a command
+abbrev pub edit_word : Edit → Word
+edit_word e = keyword_word (edit_keyword e)
+
+abbrev pub command_word : Command → Word
+command_word c = keyword_word (command_keyword c)
 
 -- ---- the words of a text
 

@@ -1,9 +1,10 @@
 //! Reading the fields of a command, and commands.
 ghost use Rattle.std.specs.Prelude.{◌≡◌, [], Some, None, MatchOption, MatchResult, codes, Ok, Err};
-ghost use Rattle.script_text.specs.Commands.{NameField, NumberField, edit_word, edit_fields, form_word};
+ghost use Rattle.script_text.specs.Commands.{NameField, NumberField, edit_keyword, edit_fields, form_keyword};
 ghost use Rattle.script_text.specs.Reading.{NameSlot, NumberSlot, field_at, ends_at, fields_at, put_slots, parts, command_at};
 
 use crate::faults::FaultKind;
+use crate::keywords::{Keyword, read_keyword};
 use crate::numbers::number;
 use crate::pieces::Pieces;
 use crate::scripts::Command;
@@ -31,7 +32,7 @@ fn end(words: &Pieces<'_>) -> Option<()>
 
 fn put(form: Form, words: &mut Pieces<'_>) -> Option<Edit>
     ensures { MatchOption result (fields_at put_slots words.old ≡ None)
-        (λ e. (edit_word e ≡ form_word form) × (fields_at put_slots words.old ≡ Some (edit_fields e))) }
+        (λ e. (edit_keyword e ≡ form_keyword form) × (fields_at put_slots words.old ≡ Some (edit_fields e))) }
 {
     let edit = Edit::Put {
         name: name_field(words)?,
@@ -49,16 +50,17 @@ fn put(form: Form, words: &mut Pieces<'_>) -> Option<Edit>
 pub fn command(words: &mut Pieces<'_>) -> Result<Command, FaultKind>
     ensures { MatchResult result (λ c. command_at words.old ≡ Ok (parts c)) (λ f. command_at words.old ≡ Err f) }
 {
-    let Some(word) = words.next() else {
-        return Err(FaultKind::NotYet);
-    };
-    if word == b"box".as_slice() {
-        let edit = put(Form::Box, words).ok_or(FaultKind::NotYet)?;
-        return Ok(Command::Edit(edit));
+    let word = words.next().ok_or(FaultKind::Command)?;
+    let keyword = read_keyword(word).ok_or(FaultKind::Command)?;
+    match keyword {
+        Keyword::Box => {
+            let edit = put(Form::Box, words).ok_or(FaultKind::Fields)?;
+            Ok(Command::Edit(edit))
+        }
+        Keyword::Layout => {
+            end(words).ok_or(FaultKind::Fields)?;
+            Ok(Command::Layout)
+        }
+        _ => Err(FaultKind::NotYet),
     }
-    if word == b"layout".as_slice() {
-        end(words).ok_or(FaultKind::NotYet)?;
-        return Ok(Command::Layout);
-    }
-    Err(FaultKind::NotYet)
 }

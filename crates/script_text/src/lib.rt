@@ -3,6 +3,7 @@
 
 pub mod faults;
 mod fields;
+pub mod keywords;
 mod lines;
 mod numbers;
 mod pieces;
