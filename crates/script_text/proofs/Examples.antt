@@ -107,3 +107,12 @@ unbuilt = faulty_2 (codes "dunnart 1\n1 undo\nend\n") (codes "1 undo" ∷ codes 
 
 two_spaces : IsFault (codes "dunnart 1\n1 box a  3 4 40 20\nend\n") (fault_at 2 kind.Fields)
 two_spaces = faulty_2 (codes "dunnart 1\n1 box a  3 4 40 20\nend\n") (codes "1 box a  3 4 40 20" ∷ codes "end" ∷ [] ∷ []) (fault_at 2 kind.Fields) (λ e. absurd cc) refl refl
+
+unbuilt_members : IsFault (codes "dunnart 1\n1 align c g mid a b\nend\n") (fault_at 2 kind.NotYet)
+unbuilt_members = faulty_2 (codes "dunnart 1\n1 align c g mid a b\nend\n") (codes "1 align c g mid a b" ∷ codes "end" ∷ [] ∷ []) (fault_at 2 kind.NotYet) (λ e. absurd cc) refl refl
+
+no_member : IsFault (codes "dunnart 1\n1 align c g mid\nend\n") (fault_at 2 kind.Fields)
+no_member = faulty_2 (codes "dunnart 1\n1 align c g mid\nend\n") (codes "1 align c g mid" ∷ codes "end" ∷ [] ∷ []) (fault_at 2 kind.Fields) (λ e. absurd cc) refl refl
+
+other_choice : IsFault (codes "dunnart 1\n1 guide g z 200\nend\n") (fault_at 2 kind.Fields)
+other_choice = faulty_2 (codes "dunnart 1\n1 guide g z 200\nend\n") (codes "1 guide g z 200" ∷ codes "end" ∷ [] ∷ []) (fault_at 2 kind.Fields) (λ e. absurd cc) refl refl

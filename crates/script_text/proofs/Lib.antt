@@ -1,4 +1,5 @@
 pub mod Table
+pub mod FieldSlots
 pub mod Cutting
 pub mod Numerals
 pub mod Laws

@@ -8,25 +8,26 @@ use Rattle.std.proofs.lemmas.List.Splits.{slice_split_at, slice_split_none, join
 use Rattle.script_text.specs.Words.{Word, spaced}
 use Rattle.script_text.specs.Pieces.{pieces}
 use Rattle.script_text.specs.Keywords.{keyword_word, is_built}
+use Rattle.script_text.specs.Grammar.{slots}
 use Rattle.script_text.specs.Commands.{Field, IsCommand, command_words, command_keyword, command_fields, fields_words}
 use Rattle.script_text.specs.Scripts.{line_text, IsLine}
-use Rattle.script_text.specs.Reading.{Parts, parts, LineParts, line_parts, keyword_of, slots, fields_at, parts_or, command_at, command_by, line_at, with_session, begins_session}
+use Rattle.script_text.specs.Reading.{Parts, parts, LineParts, line_parts, keyword_of, fields_at, parts_or, command_at, command_by, line_at, with_session, begins_session}
 use Rattle.script_text.specs.declared.scripts.Command.{Command}
 use Rattle.script_text.specs.declared.scripts.Line.{Line}
 use Rattle.script_text.specs.declared.keywords.Keyword.{Keyword}
 use Rattle.script_text.specs.declared.faults.FaultKind.{FaultKind}
 use Rattle.script_text.specs.declared.faults.FaultKind.TheVariants as kind
 use Rattle.script_text.proofs.Table.{keyword_again, keyword_sound}
-use Rattle.script_text.proofs.Laws.{slots_again, built_again, fields_again, fields_sound, SaysAll}
+use Rattle.script_text.proofs.Laws.{command_slots, built_again, fields_again, fields_sound, SaysAll}
 
 -- ---- a command
 
 command_by_again : (ws : List Word) (r : Option Keyword) (k : Keyword) (fs : List Field) → r ≡ Some k → is_built k ≡ true → fields_at (slots k) ws ≡ Some fs → command_by ws r ≡ Ok (k, fs)
-command_by_again ws r k fs e built fields = rw (e, built, fields) refl
+command_by_again ws r k fs e built fields = rw (e, fields, built) refl
 
 command_again : (c : Command) → IsCommand c → command_at (command_words c) ≡ Ok (parts c)
 command_again c h =
-    let fields : fields_at (slots (command_keyword c)) (fields_words (command_fields c)) ≡ Some (command_fields c) = rw (slots_again c) (fields_again (command_fields c) h) in
+    let fields : fields_at (slots (command_keyword c)) (fields_words (command_fields c)) ≡ Some (command_fields c) = fields_again (command_keyword c) (command_fields c) (command_slots c) h in
     command_by_again (fields_words (command_fields c)) (keyword_of (keyword_word (command_keyword c))) (command_keyword c) (command_fields c) (keyword_again (command_keyword c)) (built_again c) fields
 
 -- ---- words without the byte
@@ -39,7 +40,7 @@ abbrev pub AllLack : ℕ → List (List ℕ) → Type 0
 AllLack by [] = ⊤
 AllLack by (w ∷ ws) = Lacks by w × AllLack by ws
 
-split_join : (by : ℕ) (w : List ℕ) (ws : List (List ℕ)) → eqb by by ≡ true → Lacks by w → AllLack by ws → pieces by (join_with_byte by (w ∷ ws)) ≡ w ∷ ws
+pub split_join : (by : ℕ) (w : List ℕ) (ws : List (List ℕ)) → eqb by by ≡ true → Lacks by w → AllLack by ws → pieces by (join_with_byte by (w ∷ ws)) ≡ w ∷ ws
 split_join by w [] same h hs = slice_split_none (λ b. eqb b by) w h
 split_join by w (v ∷ ws) same h hs = slice_split_at (λ b. eqb b by) w by (join_with_byte by (v ∷ ws)) h same ∙ ap (λ (x : List (List ℕ)). w ∷ x) (split_join by v ws same hs.0 hs.1)
 
@@ -73,18 +74,18 @@ line_again k l lt h plain =
     let s : 48 + l.session - 48 ≡ l.session = omega arith in
     rw (e, short, few, low, high, words, command_again l.command h.command, s) refl
 
+built_ok : (b : Bool) (p x : Parts) → cond b (Ok p) (Err kind.NotYet) ≡ Ok x → x ≡ p
+built_ok true p x e = cc
+built_ok false p x e = absurd cc
+
 parts_or_ok : (k : Keyword) (r : Option (List Field)) (x : Parts) → parts_or k r ≡ Ok x → (fs : List Field) × (r ≡ Some fs) × (x ≡ (k, fs))
 parts_or_ok k None x e = absurd cc
-parts_or_ok k (Some fs) x e = (fs, refl, cc)
-
-built_ok : (b : Bool) (r : Result Parts FaultKind) (x : Parts) → cond b r (Err kind.NotYet) ≡ Ok x → r ≡ Ok x
-built_ok true r x e = e
-built_ok false r x e = absurd cc
+parts_or_ok k (Some fs) x e = (fs, refl, built_ok (is_built k) (k, fs) x e)
 
 command_by_ok : (ws : List Word) (r : Option Keyword) (x : Parts) → command_by ws r ≡ Ok x → (k : Keyword) × (fs : List Field) × (r ≡ Some k) × (x ≡ (k, fs)) × SaysAll ws fs
 command_by_ok ws None x e = absurd cc
 command_by_ok ws (Some k) x e =
-    let a = parts_or_ok k (fields_at (slots k) ws) x (built_ok (is_built k) (parts_or k (fields_at (slots k) ws)) x e) in
+    let a = parts_or_ok k (fields_at (slots k) ws) x e in
     (k, a.0, refl, a.2, fields_sound (slots k) ws a.0 a.1)
 
 said : (w : Word) (ws : List Word) (c : Command) (fs : List Field) → w ≡ keyword_word (command_keyword c) → command_fields c ≡ fs → SaysAll ws fs → (w ∷ ws ≡ command_words c) × IsCommand c

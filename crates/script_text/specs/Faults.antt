@@ -1,9 +1,11 @@
 -- Faults: the line at which bytes stop being a script, and what is wrong with it (the format is this project's own).
 use Rattle.std.specs.Prelude.{◌≡◌, ℕ, ◌+◌, ◌-◌, ◌<◌, ◌≤◌, List, [], ◌∷◌, ◌++◌, codes, length, map, take, drop, get_or, false, ⊤, decimal}
 use Rattle.std.specs.List.{concat}
-use Rattle.script_text.specs.Words.{Word}
+use Rattle.script_text.specs.Words.{Word, spaced}
 use Rattle.script_text.specs.Pieces.{pieces}
 use Rattle.script_text.specs.Keywords.{keyword_word, is_built}
+use Rattle.script_text.specs.Grammar.{slots}
+use Rattle.script_text.specs.Commands.{Field, slot_of, fields_words, AreFields}
 use Rattle.script_text.specs.Scripts.{last_session, IsScript, script_texts, with_lf, SpellsNone}
 use Rattle.script_text.specs.declared.keywords.Keyword.{Keyword}
 use Rattle.script_text.specs.declared.scripts.Line.{Line}
@@ -48,11 +50,17 @@ word_behind_session line = get_or (pieces 32 (drop 2 line)) 0 []
 abbrev pub HasCommand : List ℕ → Keyword → Type 0
 HasCommand line k = word_behind_session line ≡ keyword_word k
 
--- a command that the program doesn't have yet
+-- a line that the grammar has, whose command the program doesn't have yet: a session, the word of the command, and
+-- fields that stand at the places of that command
 pub record IsUnbuilt (line : List ℕ) : Type 0 where
   pub keyword : Keyword
-  pub has : HasCommand line keyword
   pub unbuilt : is_built keyword ≡ false
+  pub session : ℕ
+  pub is_session : (1 ≤ session) × (session ≤ last_session)
+  pub fields : List Field
+  pub fit : map slot_of fields ≡ slots keyword
+  pub are : AreFields fields
+  pub text : line ≡ spaced (decimal session ∷ keyword_word keyword ∷ fields_words fields)
 
 -- what each kind says of the line behind n others
 abbrev pub Holds : FaultKind → List ℕ → ℕ → Type 0

@@ -1,5 +1,6 @@
 pub mod Words
 pub mod Keywords
+pub mod Grammar
 pub mod Commands
 pub mod Scripts
 pub mod Pieces

@@ -1,15 +1,18 @@
 -- Reading from left to right, as functions on lists of pieces. Contracts of private functions speak of these; that
 -- they agree with the grammar is proved, and public contracts cite the grammar alone.
 use Rattle.std.specs.Prelude.{◌≡◌, ℕ, ◌+◌, ◌-◌, ◌≤◌, List, [], ◌∷◌, ◌++◌, codes, length, map, drop, Bool, not, ◌&&◌, ◌==◌, nat_lt, nat_le, if◌then◌else◌, slice_index, bytes_eq, ⊤, Option, Some, None, Result, Ok, Err}
-use Rattle.units.specs.Name.{name_of}
+use Rattle.std.specs.List.{list_all}
+use Rattle.units.specs.Name.{is_name, name_of}
 use Rattle.script_text.specs.Words.{Word}
 use Rattle.script_text.specs.Pieces.{pieces}
 use Rattle.script_text.specs.Numbers.{number_of}
 use Rattle.script_text.specs.Keywords.{keyword_word, all_keywords, is_built}
-use Rattle.script_text.specs.Commands.{Field, NameField, NumberField, command_keyword, command_fields}
+use Rattle.script_text.specs.Grammar.{slots, is_choice}
+use Rattle.script_text.specs.Commands.{Field, NameField, NumberField, ChoiceField, MembersField, command_keyword, command_fields}
 use Rattle.script_text.specs.Scripts.{last_session, line_text, AreLines}
 use Rattle.script_text.specs.declared.keywords.Keyword.{Keyword}
-use Rattle.script_text.specs.declared.keywords.Keyword.TheVariants as keyword
+use Rattle.script_text.specs.declared.slots.Slot.{Slot}
+use Rattle.script_text.specs.declared.slots.Slot.TheVariants as slot
 use Rattle.script_text.specs.declared.scripts.Command.{Command}
 use Rattle.script_text.specs.declared.scripts.Line.{Line}
 use Rattle.script_text.specs.declared.faults.FaultKind.{FaultKind}
@@ -20,11 +23,6 @@ use Rattle.script_text.specs.declared.faults.ReadFault.TheVariants as cause
 
 -- ---- the fields of a command
 
--- what may stand at a field
-pub data Slot : Type 0 where
-  NameSlot : Slot
-  NumberSlot : Slot
-
 -- goes on with what was read, where something was
 infixl 10 ◌>>=◌
 abbrev pub ◌>>=◌ : {A B : Type 0} → Option A → (A → Option B) → Option B
@@ -33,13 +31,20 @@ None >>= f = None
 
 -- the field that a word is at a slot, if it is one
 abbrev pub word_field : Slot → Word → Option Field
-word_field NameSlot w = name_of w >>= λ n. Some (NameField n)
-word_field NumberSlot w = number_of w >>= λ z. Some (NumberField z)
+word_field slot.Name w = name_of w >>= λ n. Some (NameField n)
+word_field slot.Number w = number_of w >>= λ z. Some (NumberField z)
+word_field (slot.Choice c) w = if is_choice c w then Some (ChoiceField c w) else None
+word_field slot.Members w = None
 
--- a field and the words behind it
+-- the words as members, where they are one name or more
+abbrev pub members_of : List Word → Option (List Word)
+members_of ws = if not (length ws == 0) && list_all is_name ws then Some ws else None
+
+-- a field and the words behind it; members are all words
 abbrev pub field_at : Slot → List Word → Option (Field × List Word)
-field_at slot [] = None
-field_at slot (w ∷ ws) = word_field slot w >>= λ f. Some (f, ws)
+field_at slot.Members ws = members_of ws >>= λ ms. Some (MembersField ms, [])
+field_at s [] = None
+field_at s (w ∷ ws) = word_field s w >>= λ f. Some (f, ws)
 
 -- no word is left
 abbrev pub ends_at : List Word → Option (List Field)
@@ -49,18 +54,7 @@ ends_at (w ∷ ws) = None
 -- a field for each slot, and no word behind them
 abbrev pub fields_at : List Slot → List Word → Option (List Field)
 fields_at [] ws = ends_at ws
-fields_at (slot ∷ slots) ws = field_at slot ws >>= λ f. fields_at slots f.1 >>= λ fs. Some (f.0 ∷ fs)
-
--- ---- the table: what stands behind each command word
-
--- what stands behind a word that puts a shape: its name, then x, y, width and height
-abbrev pub put_slots : List Slot
-put_slots = NameSlot ∷ NumberSlot ∷ NumberSlot ∷ NumberSlot ∷ NumberSlot ∷ []
-
--- what stands behind the word of a command that is built
-abbrev pub slots : Keyword → List Slot
-slots keyword.Box = put_slots
-slots _ = []
+fields_at (s ∷ rest) ws = field_at s ws >>= λ f. fields_at rest f.1 >>= λ fs. Some (f.0 ∷ fs)
 
 -- ---- a command
 
@@ -81,15 +75,15 @@ Parts = Keyword × List Field
 abbrev pub parts : Command → Parts
 parts c = (command_keyword c, command_fields c)
 
--- a keyword with the fields that were read, or the fault where none were
+-- a keyword with the fields that were read, or the fault where none were or the command isn't built
 abbrev pub parts_or : Keyword → Option (List Field) → Result Parts FaultKind
 parts_or k None = Err kind.Fields
-parts_or k (Some fs) = Ok (k, fs)
+parts_or k (Some fs) = if is_built k then Ok (k, fs) else Err kind.NotYet
 
 -- the command with these words behind its keyword
 abbrev pub command_by : List Word → Option Keyword → Result Parts FaultKind
 command_by ws None = Err kind.Command
-command_by ws (Some k) = if is_built k then parts_or k (fields_at (slots k) ws) else Err kind.NotYet
+command_by ws (Some k) = parts_or k (fields_at (slots k) ws)
 
 -- the command with these words
 abbrev pub command_at : List Word → Result Parts FaultKind

@@ -3,6 +3,7 @@
 
 pub mod faults;
 mod fields;
+mod fitting;
 pub mod keywords;
 mod lines;
 mod numbers;
@@ -10,6 +11,7 @@ mod pieces;
 pub mod printing;
 pub mod reading;
 pub mod scripts;
+pub mod slots;
 
 pub use faults::{FaultKind, ReadFault, ScriptFault};
 pub use printing::{command_text, edit_text};

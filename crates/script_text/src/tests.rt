@@ -128,6 +128,91 @@ fn fields_are_refused(rt: HostRuntime) -> Result<(), Fail> {
     Ok(())
 }
 
+/// The kind of the fault of a script whose first command is this one; None where there is no fault.
+fn kind_of(alloc: Global, command: &str) -> Result<Option<FaultKind>, Fail> {
+    let text = format!(in alloc; "dunnart 1\n1 {command}\nend\n")?;
+    match read(alloc, text.as_bytes()) {
+        Ok(_) => Ok(None),
+        Err(ReadFault::Fault(ScriptFault { line: 2, kind })) => Ok(Some(kind)),
+        Err(_) => Err(Fail::from("a fault in line 2")),
+    }
+}
+
+#[test]
+fn commands_that_are_not_built(rt: HostRuntime) -> Result<(), Fail> {
+    for command in [
+        "oval a 0 0 10 10",
+        "diamond a -5 0 10 10",
+        "size a 10 999999999",
+        "move a 0 -1",
+        "shift g -5",
+        "hold a",
+        "free a",
+        "remove a",
+        "link l a b",
+        "unlink l",
+        "guide g x 200",
+        "align c g low a",
+        "align c g mid a b",
+        "align c g high a b c",
+        "spread s y 80 a",
+        "rank r x 0 a b c",
+        "apart s x a b 20 least",
+        "apart s y a b -20 exact",
+        "group g 15 a b",
+        "page p 0 0 600 800 20 soft",
+        "page p 0 0 600 800 20 rigid",
+        "drop c",
+        "undo",
+        "where a",
+    ] {
+        assert_eq!(rt;
+            kind_of(rt.alloc(), command)?,
+            Some(FaultKind::NotYet),
+            "{command}"
+        );
+    }
+    Ok(())
+}
+
+#[test]
+fn fields_of_commands_that_are_not_built(rt: HostRuntime) -> Result<(), Fail> {
+    for command in [
+        "oval a 0 0 10",
+        "diamond a 0 0 10 10 10",
+        "size a 10",
+        "move a 0 -0",
+        "shift g 01",
+        "hold",
+        "free 2a",
+        "remove a b",
+        "link l a",
+        "unlink ",
+        "guide g z 200",
+        "guide g 200 x",
+        "align c g middle a",
+        "align c g mid",
+        "align c g mid a  b",
+        "spread s y 80",
+        "rank r x 0 a 1",
+        "apart s x a b 20",
+        "apart s x a b 20 least b",
+        "group g a b",
+        "page p 0 0 600 800 20 hard",
+        "drop -",
+        "undo a",
+        "undo ",
+        "where",
+    ] {
+        assert_eq!(rt;
+            kind_of(rt.alloc(), command)?,
+            Some(FaultKind::Fields),
+            "{command}"
+        );
+    }
+    Ok(())
+}
+
 /// A script of so many lines `1 layout`, and a line of `1 box ` with so many letters.
 fn long_script(alloc: Global, layouts: usize, letters: usize) -> Result<Vec<u8>, Fail> {
     let mut text = Vec::from_slice(alloc, b"dunnart 1\n")?;
