@@ -3,3 +3,4 @@ pub mod Lines
 pub mod Replying
 pub mod Settling
 pub mod Together
+pub mod Failing

@@ -6,7 +6,7 @@ ghost use Rattle.byte_edge.specs.Given.{GivesPast, GivesWithin};
 ghost use Rattle.script_text.specs.declared.faults.ScriptFault.{ScriptFault as FaultValue};
 ghost use Rattle.script_text.specs.declared.scripts.Line.{Line};
 ghost use Rattle.script_text.specs.Scripts.{Spells};
-ghost use Rattle.editor_run.specs.Input.{SpelledBy, SpellsNone};
+ghost use Rattle.editor_run.specs.Input.{SpelledBy, HasFault};
 ghost use Rattle.editor_run.specs.declared.outcome.Fault.TheVariants as fault;
 
 use crate::outcome::Fault;
@@ -21,7 +21,7 @@ pub const MOST_BYTES: usize = 1_048_576;
 pub fn input<S: Source>(alloc: Global, source: &mut S) -> Result<Script, Fault>
     ensures spelled { IfOk result (λ script. SpelledBy (S.left source.old) script) }
     ensures end { OnOk result (IsAtEnd (S.left source.new)) }
-    ensures none_spelled { (f : FaultValue) → result ≡ Err (fault.Script f) → SpellsNone (S.left source.old) × IsAtEnd (S.left source.new) }
+    ensures none_spelled { (f : FaultValue) → result ≡ Err (fault.Script f) → HasFault (S.left source.old) f × IsAtEnd (S.left source.new) }
     ensures source_failed { result ≡ Err fault.Source → HasRisen (S.faults source.old) (S.faults source.new) }
     ensures source_calm { (result ≡ Err fault.Source) ⊎ (S.faults source.new ≡ S.faults source.old) }
     ensures too_long { result ≡ Err fault.Long → GivesPast 1048576 (S.left source.old) (S.left source.new) (S.given source.old) (S.given source.new) }

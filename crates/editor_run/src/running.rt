@@ -8,7 +8,7 @@ ghost use Rattle.script_text.specs.declared.faults.ScriptFault.{ScriptFault as F
 ghost use Rattle.script_text.specs.declared.scripts.Line.{Line as LineValue};
 ghost use Rattle.script_text.specs.Scripts.{Spells};
 ghost use Rattle.doc_book.specs.Listing.{listing_text};
-ghost use Rattle.editor_run.specs.Input.{SpelledBy, SpellsNone};
+ghost use Rattle.editor_run.specs.Input.{SpelledBy, HasFault};
 ghost use Rattle.editor_run.specs.Outcomes.{HasStatus, IsBare, IsWhole, WritesNothing, WhereRun, OnSuccess, failure, ran, status_of};
 ghost use Rattle.editor_run.specs.Played.{IsRightHistory, AreOwnEntries, HaveRightReplies, AreCallers, PutsPart};
 ghost use Rattle.editor_run.specs.declared.outcome.Fault.TheVariants as fault;
@@ -81,9 +81,9 @@ fn status_of(fault: Fault) -> u8
 /// listing. It waits for nobody and always returns. The plan is one that it serves: at most 512 frames, no workers, no
 /// picture and no made script, which its fields show.
 ///
-/// Statuses: 0 on success; 3 where the bytes spell no script; 4 where a read failed; 5 for want of memory; 6 where a
-/// write failed, with a front part of the listing written; 7 where the source gave more than 1,048,576 bytes. On 3, 4
-/// and 7 nothing is written, on 5 nothing or a front part of the listing.
+/// Statuses: 0 on success; 3 where the bytes spell no script, with the line and the kind of their fault; 4 where a read
+/// failed; 5 for want of memory; 6 where a write failed, with a front part of the listing written; 7 where the source
+/// gave more than 1,048,576 bytes. On 3, 4 and 7 nothing is written, on 5 nothing or a front part of the listing.
 pub fn run_alone<R: AllocGlobal, S: Source, K: Sink>(
     rt: &R,
     plan: Plan,
@@ -108,7 +108,7 @@ pub fn run_alone<R: AllocGlobal, S: Source, K: Sink>(
     // The status is that of the fault, and each fault has its cause.
     ensures status { HasStatus result }
     ensures no_words { result.fault ≡ Some fault.Words → ⊥ }
-    ensures no_script { (f : FaultValue) → result.fault ≡ Some (fault.Script f) → SpellsNone (S.left source.old) × IsAtEnd (S.left source.new) }
+    ensures no_script { (f : FaultValue) → result.fault ≡ Some (fault.Script f) → HasFault (S.left source.old) f × IsAtEnd (S.left source.new) }
     ensures source_failed { result.fault ≡ Some fault.Source → HasRisen (S.faults source.old) (S.faults source.new) }
     ensures source_calm { (result.fault ≡ Some fault.Source) ⊎ (S.faults source.new ≡ S.faults source.old) }
     ensures too_long { result.fault ≡ Some fault.Long → GivesPast 1048576 (S.left source.old) (S.left source.new) (S.given source.old) (S.given source.new) }
@@ -167,7 +167,7 @@ pub fn run<R: AllocGlobal, S: Source, K: Sink>(
     ensures status { HasStatus result }
     ensures words_refused { (result.fault ≡ Some fault.Words) ↔ (1 < vec_len words) }
     ensures unread { result.fault ≡ Some fault.Words → source.new ≡ source.old }
-    ensures no_script { (f : FaultValue) → result.fault ≡ Some (fault.Script f) → SpellsNone (S.left source.old) × IsAtEnd (S.left source.new) }
+    ensures no_script { (f : FaultValue) → result.fault ≡ Some (fault.Script f) → HasFault (S.left source.old) f × IsAtEnd (S.left source.new) }
     ensures source_failed { result.fault ≡ Some fault.Source → HasRisen (S.faults source.old) (S.faults source.new) }
     ensures source_calm { (result.fault ≡ Some fault.Source) ⊎ (S.faults source.new ≡ S.faults source.old) }
     ensures too_long { result.fault ≡ Some fault.Long → GivesPast 1048576 (S.left source.old) (S.left source.new) (S.given source.old) (S.given source.new) }

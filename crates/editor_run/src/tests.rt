@@ -67,16 +67,31 @@ fn no_frames(rt: HostRuntime) -> Result<(), Fail> {
 fn faulty_scripts(rt: HostRuntime) -> Result<(), Fail> {
     let alloc = rt.alloc();
     let scripts = [
-        b"dunnart 1\n1 box a 0".as_slice(),
-        b"dunnart 1\n1 box a 3 4 40 20\n1 layout\n1 layout\n".as_slice(),
-        b"dunnart 1\n\xff\nend\n".as_slice(),
-        b"dunnart 1\n1 undo\nend\n".as_slice(),
+        (b"dunnart 1\n1 box a 0".as_slice(), "3 line 2: Cut"),
+        (
+            b"dunnart 1\n1 box a 3 4 40 20\n1 layout\n1 layout\n",
+            "3 line 5: Missing",
+        ),
+        (b"dunnart 1\n\xff\nend\n", "3 line 2: Session"),
+        (b"dunnart 1\n1 undo\nend\n", "3 line 2: NotYet"),
+        (b"", "3 line 1: Missing"),
+        (b"dunnart 1\r\n1 undo\nend\n", "3 line 1: Header"),
+        (b"dunnart 1\n9 undo\nend\n", "3 line 2: Session"),
+        (b"dunnart 1\n1  undo\nend\n", "3 line 2: Command"),
+        (b"dunnart 1\n1 layout \nend\n", "3 line 2: Fields"),
+        (b"dunnart 1\n1 box a 0 0 10 -0\nend\n", "3 line 2: Fields"),
+        (
+            b"dunnart 1\n1 box a 0 0 10 1000000000\nend\n",
+            "3 line 2: Fields",
+        ),
+        (b"dunnart 1\nend", "3 line 2: Cut"),
+        (b"dunnart 1\nend\nx", "3 line 3: After"),
     ];
-    for script in scripts {
+    for (script, text) in scripts {
         let mut source = SureSource::new(script.to_vec(alloc)?);
         let mut sink = SureSink::new(alloc);
         let outcome = run(&rt, Vec::new(alloc), &mut source, &mut sink);
-        assert_eq!(rt; said(alloc, &outcome)?.as_str(), "3 line 0: NotYet");
+        assert_eq!(rt; said(alloc, &outcome)?.as_str(), text);
         assert_eq!(rt; sink.bytes(), [].as_slice());
     }
     Ok(())

@@ -1,20 +1,23 @@
 -- No word of a command has a space or a LF.
 use Rattle.std.proofs.Common.{◌≡◌, ℕ, suc, ◌+◌, ◌<◌, ◌≤◌, ◌^◌, Bool, true, false, ◌&&◌, ◌||◌, leb, eqb, List, [], ◌∷◌, ◌++◌, refl, arith, inl, inr}
-use Rattle.std.specs.Prelude.{ℤ, pos, negsuc, nat_abs, decimal}
-use Rattle.std.specs.List.{list_all, AllByRecursion}
+use Rattle.std.specs.Prelude.{◌⊎◌, ℤ, pos, negsuc, nat_abs, decimal, bytes_eq}
+use Rattle.std.specs.List.{list_all, list_any, AllByRecursion}
 use Rattle.std.specs.Fmt.{signed_decimal}
 use Rattle.std.specs.Str.{all_ascii_digits}
-use Rattle.std.proofs.lemmas.Bool.{and_parts, and_from, or_cases, le-leb, leb-true, ne_eqb, eqb-true}
+use Rattle.std.proofs.lemmas.Bool.{and_parts, and_from, or_cases, le-leb, leb-true, ne_eqb, eqb-true, both_ways}
+use Rattle.std.proofs.lemmas.Slice.Eq.{bytes_eq-Decides}
+use Rattle.script_text.specs.Grammar.{choice_words}
+use Rattle.script_text.specs.declared.slots.Choice.{Choice}
+use Rattle.script_text.specs.declared.slots.Choice.TheVariants as choice
 use Rattle.std.proofs.lemmas.List.Elements.{All-from_recursion}
 use Rattle.units.specs.Name.{is_name, is_name_byte, is_letter, is_digit}
-use Rattle.scene_model.specs.declared.items.Form.TheVariants as form
-use Rattle.edit_rules.specs.declared.edits.Edit.{Edit}
-use Rattle.edit_rules.specs.declared.edits.Edit.TheVariants as edit
 use Rattle.script_text.specs.declared.scripts.Command.{Command}
-use Rattle.script_text.specs.declared.scripts.Command.TheVariants as command
 use Rattle.script_text.specs.declared.scripts.Line.{Line}
 use Rattle.script_text.specs.Words.{Word, spaced}
-use Rattle.script_text.specs.Commands.{Field, NameField, NumberField, edit_word, command_word, command_fields, fields_words, AreFields, IsCommand, command_words}
+use Rattle.script_text.specs.Keywords.{keyword_word}
+use Rattle.script_text.specs.declared.keywords.Keyword.{Keyword}
+use Rattle.script_text.specs.declared.keywords.Keyword.TheVariants as keyword
+use Rattle.script_text.specs.Commands.{Field, NameField, NumberField, ChoiceField, MembersField, AreNames, command_keyword, command_fields, fields_words, AreFields, IsCommand, command_words}
 use Rattle.script_text.specs.Scripts.{line_text}
 use Rattle.script_text.proofs.Numerals.{decimal_is}
 use Rattle.script_text.proofs.WholeLines.{Lacks, AllLack, line_text-digit}
@@ -53,29 +56,74 @@ number_above (negsuc n) lt = digits_above (decimal (suc n)) (decimal_is (suc n) 
 
 -- ---- the table, a line for each command
 
-edit_above : (e : Edit) → above (edit_word e) ≡ true
-edit_above (edit.Put n form.Box x y w h) = refl
-
-command_above : (c : Command) → above (command_word c) ≡ true
-command_above (command.Edit e) = edit_above e
-command_above command.Layout = refl
+keyword_above : (k : Keyword) → above (keyword_word k) ≡ true
+keyword_above keyword.Box = refl
+keyword_above keyword.Oval = refl
+keyword_above keyword.Diamond = refl
+keyword_above keyword.Size = refl
+keyword_above keyword.Move = refl
+keyword_above keyword.Shift = refl
+keyword_above keyword.Hold = refl
+keyword_above keyword.Free = refl
+keyword_above keyword.Remove = refl
+keyword_above keyword.Link = refl
+keyword_above keyword.Unlink = refl
+keyword_above keyword.Guide = refl
+keyword_above keyword.Align = refl
+keyword_above keyword.Spread = refl
+keyword_above keyword.Rank = refl
+keyword_above keyword.Apart = refl
+keyword_above keyword.Group = refl
+keyword_above keyword.Page = refl
+keyword_above keyword.Drop = refl
+keyword_above keyword.Undo = refl
+keyword_above keyword.Layout = refl
+keyword_above keyword.Where = refl
 
 -- ---- all words of a command
 
 abbrev all_above : List Word → Type 0
 all_above ws = AllByRecursion (λ w. above w ≡ true) ws
 
+same_above : (w v : Word) (b : Bool) → (b ≡ true → w ≡ v) → above v ≡ true → (above w ≡ true) ⊎ (b ≡ false)
+same_above w v true same h = inl (rw (same refl) h)
+same_above w v false same h = inr refl
+
+any_above : (table : List Word) (w : Word) → all_above table → list_any (bytes_eq w) table ≡ true → above w ≡ true
+any_above [] w h e = absurd cc
+any_above (v ∷ table) w h e =
+    elim (same_above w v (bytes_eq w v) (bytes_eq-Decides w v).0 h.0) [
+      | inl known ↦ known
+      | inr other ↦ any_above table w h.1 (elim (or_cases (bytes_eq w v) (list_any (bytes_eq w) table) e) [ inl same ↦ absurd (both_ways _ other same) | inr rest ↦ rest ])
+    ]
+
+choices_above : (c : Choice) → all_above (choice_words c)
+choices_above choice.Axis = (refl, (refl, tt))
+choices_above choice.AlignLine = (refl, (refl, (refl, tt)))
+choices_above choice.Exactness = (refl, (refl, tt))
+choices_above choice.Stiffness = (refl, (refl, tt))
+
+names_above : (ms rest : List Word) → AreNames ms → all_above rest → all_above (ms ++ rest)
+names_above [] rest h g = g
+names_above (m ∷ ms) rest h g = (name_above m h.0, names_above ms rest h.1 g)
+
 fields_above : (fs : List Field) → AreFields fs → all_above (fields_words fs)
 fields_above [] h = tt
 fields_above (NameField n ∷ fs) h = (name_above n h.0, fields_above fs h.1)
 fields_above (NumberField z ∷ fs) h = (number_above z h.0, fields_above fs h.1)
+fields_above (ChoiceField c w ∷ fs) h = (any_above (choice_words c) w (choices_above c) h.0, fields_above fs h.1)
+fields_above (MembersField ms ∷ fs) h = names_above ms (fields_words fs) h.0.1 (fields_above fs h.1)
 
 all_lack : (by : ℕ) → by < 45 → (ws : List Word) → all_above ws → AllLack by ws
 all_lack by lt [] h = tt
 all_lack by lt (w ∷ ws) h = (All-from_recursion (λ b. eqb b by ≡ false) w (lacks by lt w h.0), all_lack by lt ws h.1)
 
+-- the word of a command and the words of fields
+pub words_lack : (by : ℕ) → by < 45 → (k : Keyword) (fs : List Field) → AreFields fs → AllLack by (keyword_word k ∷ fields_words fs)
+words_lack by lt k fs h = all_lack by lt (keyword_word k ∷ fields_words fs) (keyword_above k, fields_above fs h)
+
 pub command_lacks : (by : ℕ) → by < 45 → (c : Command) → IsCommand c → AllLack by (command_words c)
-command_lacks by lt c h = all_lack by lt (command_words c) (command_above c, fields_above (command_fields c) h)
+command_lacks by lt c h = words_lack by lt (command_keyword c) (command_fields c) h
 
 append_rec : (a b : List ℕ) → AllByRecursion (λ c. eqb c 10 ≡ false) a → AllByRecursion (λ c. eqb c 10 ≡ false) b → AllByRecursion (λ c. eqb c 10 ≡ false) (a ++ b)
 append_rec [] b h g = g
@@ -88,4 +136,4 @@ join_lacks (w ∷ []) h = lacks 10 (omega arith) w h.0
 join_lacks (w ∷ v ∷ ws) h = append_rec w (32 ∷ spaced (v ∷ ws)) (lacks 10 (omega arith) w h.0) (ne_eqb 32 10 (λ e. omega arith), join_lacks (v ∷ ws) h.1)
 
 pub line_lacks : (l : Line) → 1 ≤ l.session → l.session ≤ 8 → IsCommand l.command → Lacks 10 (line_text l)
-line_lacks l low high h = rw (line_text-digit l high) (All-from_recursion (λ b. eqb b 10 ≡ false) ((48 + l.session) ∷ 32 ∷ spaced (command_words l.command)) (ne_eqb _ _ (λ e. omega arith), (ne_eqb 32 10 (λ e. omega arith), join_lacks (command_words l.command) (command_above l.command, fields_above (command_fields l.command) h))))
+line_lacks l low high h = rw (line_text-digit l high) (All-from_recursion (λ b. eqb b 10 ≡ false) ((48 + l.session) ∷ 32 ∷ spaced (command_words l.command)) (ne_eqb _ _ (λ e. omega arith), (ne_eqb 32 10 (λ e. omega arith), join_lacks (command_words l.command) (keyword_above (command_keyword l.command), fields_above (command_fields l.command) h))))

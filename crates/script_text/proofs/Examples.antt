@@ -1,6 +1,6 @@
 -- The definitions at scripts whose bytes are known.
-use Rattle.std.proofs.Common.{◌≡◌, ℕ, [], ◌∷◌, pos, negsuc, refl, arith}
-use Rattle.std.specs.Prelude.{codes, None}
+use Rattle.std.proofs.Common.{◌≡◌, ℕ, List, [], ◌∷◌, ◌++◌, length, map, pos, negsuc, refl, arith}
+use Rattle.std.specs.Prelude.{codes, Some, None}
 use Rattle.std.specs.Fmt.{digits}
 use Rattle.std.proofs.lemmas.Bool.{leb-true}
 use Rattle.scene_model.specs.declared.items.Form.TheVariants as form
@@ -13,9 +13,12 @@ use Rattle.script_text.specs.Words.{spaced}
 use Rattle.script_text.specs.Numbers.{number_of}
 use Rattle.script_text.specs.Commands.{edit_words, command_words}
 use Rattle.script_text.specs.declared.faults.FaultKind.TheVariants as kind
-use Rattle.script_text.specs.Reading.{lines_at}
-use Rattle.script_text.specs.Scripts.{IsLine, Spells, SpellsNone}
-use Rattle.script_text.proofs.Texts.{none_if_refused}
+use Rattle.script_text.specs.declared.faults.ScriptFault.{ScriptFault}
+use Rattle.script_text.specs.Pieces.{pieces}
+use Rattle.script_text.specs.Reading.{fault_at, body_stop, AtHeader, Behind}
+use Rattle.script_text.specs.Scripts.{IsLine, IsScript, Spells, line_text}
+use Rattle.script_text.specs.Faults.{IsFault}
+use Rattle.script_text.proofs.WholeFaults.{fault_sound}
 
 -- the box of the first example, and one left of 0
 abbrev first_box : Edit
@@ -62,14 +65,54 @@ no_minus_zero = refl
 no_leading_zero : number_of (codes "03") ≡ None
 no_leading_zero = refl
 
-no_end : SpellsNone (codes "dunnart 1\n1 layout\n")
-unfolding lines_at
-no_end = none_if_refused (codes "dunnart 1\n1 layout\n") {kind = kind.NotYet} refl
+-- ---- faults
 
-two_spaces : SpellsNone (codes "dunnart 1\n1  layout\nend\n")
-unfolding lines_at
-two_spaces = none_if_refused (codes "dunnart 1\n1  layout\nend\n") {kind = kind.NotYet} refl
+-- a fault behind these command lines, in what is left
+faulty : (bytes : List ℕ) (front : List Line) (left : List (List ℕ)) (f : ScriptFault) → IsScript front → (left ≡ [] → ⊥) → pieces 10 bytes ≡ codes "dunnart 1" ∷ map line_text front ++ left → body_stop (length front) left ≡ Some f → IsFault bytes f
+faulty bytes front left f is some p stop =
+    fault_sound bytes f (Behind (map line_text front ++ left) p record { front = front; are = is.are; few = is.few; left = left; some = some; is = refl; stop = stop })
 
-behind_end : SpellsNone (codes "dunnart 1\nend\n1 layout\n")
-unfolding lines_at
-behind_end = none_if_refused (codes "dunnart 1\nend\n1 layout\n") {kind = kind.NotYet} refl
+-- no command line in front
+abbrev faulty_2 : (bytes : List ℕ) (left : List (List ℕ)) (f : ScriptFault) → (left ≡ [] → ⊥) → pieces 10 bytes ≡ codes "dunnart 1" ∷ left → body_stop 0 left ≡ Some f → IsFault bytes f
+faulty_2 bytes left f some p stop = faulty bytes [] left f record { few = omega arith; are = tt } some p stop
+
+nothing : IsFault [] (fault_at 1 kind.Missing)
+nothing = fault_sound [] (fault_at 1 kind.Missing) (AtHeader refl)
+
+other_header : IsFault (codes "dunnart 2\nend\n") (fault_at 1 kind.Header)
+other_header = fault_sound (codes "dunnart 2\nend\n") (fault_at 1 kind.Header) (AtHeader refl)
+
+cut_header : IsFault (codes "dunnart 1") (fault_at 1 kind.Cut)
+cut_header = fault_sound (codes "dunnart 1") (fault_at 1 kind.Cut) (AtHeader refl)
+
+cut_line : IsFault (codes "dunnart 1\n1 box a 0") (fault_at 2 kind.Cut)
+cut_line = faulty_2 (codes "dunnart 1\n1 box a 0") (codes "1 box a 0" ∷ []) (fault_at 2 kind.Cut) (λ e. absurd cc) refl refl
+
+no_end : IsFault (codes "dunnart 1\n1 layout\n") (fault_at 3 kind.Missing)
+unfolding digits
+no_end = faulty (codes "dunnart 1\n1 layout\n") (line 2 command.Layout ∷ []) ([] ∷ []) (fault_at 3 kind.Missing) record { few = omega arith; are = (layout_line 2, tt) } (λ e. absurd cc) refl refl
+
+behind_end : IsFault (codes "dunnart 1\n1 layout\nend\n1 layout\n") (fault_at 4 kind.After)
+unfolding digits
+behind_end = faulty (codes "dunnart 1\n1 layout\nend\n1 layout\n") (line 2 command.Layout ∷ []) (codes "end" ∷ codes "1 layout" ∷ [] ∷ []) (fault_at 4 kind.After) record { few = omega arith; are = (layout_line 2, tt) } (λ e. absurd cc) refl refl
+
+no_session : IsFault (codes "dunnart 1\nlayout\nend\n") (fault_at 2 kind.Session)
+no_session = faulty_2 (codes "dunnart 1\nlayout\nend\n") (codes "layout" ∷ codes "end" ∷ [] ∷ []) (fault_at 2 kind.Session) (λ e. absurd cc) refl refl
+
+no_command : IsFault (codes "dunnart 1\n1 bax a 3 4 40 20\nend\n") (fault_at 2 kind.Command)
+no_command = faulty_2 (codes "dunnart 1\n1 bax a 3 4 40 20\nend\n") (codes "1 bax a 3 4 40 20" ∷ codes "end" ∷ [] ∷ []) (fault_at 2 kind.Command) (λ e. absurd cc) refl refl
+
+unbuilt : IsFault (codes "dunnart 1\n1 undo\nend\n") (fault_at 2 kind.NotYet)
+unbuilt = faulty_2 (codes "dunnart 1\n1 undo\nend\n") (codes "1 undo" ∷ codes "end" ∷ [] ∷ []) (fault_at 2 kind.NotYet) (λ e. absurd cc) refl refl
+
+two_spaces : IsFault (codes "dunnart 1\n1 box a  3 4 40 20\nend\n") (fault_at 2 kind.Fields)
+two_spaces = faulty_2 (codes "dunnart 1\n1 box a  3 4 40 20\nend\n") (codes "1 box a  3 4 40 20" ∷ codes "end" ∷ [] ∷ []) (fault_at 2 kind.Fields) (λ e. absurd cc) refl refl
+
+unbuilt_members : IsFault (codes "dunnart 1\n1 align c g mid a b\nend\n") (fault_at 2 kind.NotYet)
+unbuilt_members = faulty_2 (codes "dunnart 1\n1 align c g mid a b\nend\n") (codes "1 align c g mid a b" ∷ codes "end" ∷ [] ∷ []) (fault_at 2 kind.NotYet) (λ e. absurd cc) refl refl
+
+no_member : IsFault (codes "dunnart 1\n1 align c g mid\nend\n") (fault_at 2 kind.Fields)
+no_member = faulty_2 (codes "dunnart 1\n1 align c g mid\nend\n") (codes "1 align c g mid" ∷ codes "end" ∷ [] ∷ []) (fault_at 2 kind.Fields) (λ e. absurd cc) refl refl
+
+other_choice : IsFault (codes "dunnart 1\n1 guide g z 200\nend\n") (fault_at 2 kind.Fields)
+other_choice = faulty_2 (codes "dunnart 1\n1 guide g z 200\nend\n") (codes "1 guide g z 200" ∷ codes "end" ∷ [] ∷ []) (fault_at 2 kind.Fields) (λ e. absurd cc) refl refl

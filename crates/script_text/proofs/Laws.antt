@@ -1,15 +1,24 @@
 -- The fields of a command: what is read is spelled so, and what is spelled so is read.
-use Rattle.std.proofs.Common.{◌≡◌, Bool, true, false, cond, List, [], ◌∷◌, ◌++◌, map, Option, Some, None, refl, sym, ap, subst, ◌∙◌}
+use Rattle.std.proofs.Common.{◌≡◌, ◌<◌, Bool, true, false, cond, not, ◌&&◌, eqb, List, [], ◌∷◌, ◌++◌, length, map, Option, Some, None, refl, sym, ap, subst, ◌∙◌, arith}
+use Rattle.std.specs.List.{list_all}
+use Rattle.std.proofs.lemmas.Bool.{and_parts, ne_eqb}
+use Rattle.std.proofs.lemmas.List.{append-nil}
 use Rattle.units.specs.Name.{is_name, name_of}
 use Rattle.scene_model.specs.declared.items.Form.TheVariants as form
 use Rattle.edit_rules.specs.declared.edits.Edit.{Edit}
 use Rattle.edit_rules.specs.declared.edits.Edit.TheVariants as edit
 use Rattle.script_text.specs.declared.scripts.Command.{Command}
 use Rattle.script_text.specs.declared.scripts.Command.TheVariants as command
+use Rattle.script_text.specs.declared.keywords.Keyword.{Keyword}
+use Rattle.script_text.specs.declared.keywords.Keyword.TheVariants as keyword
+use Rattle.script_text.specs.declared.slots.Slot.{Slot}
+use Rattle.script_text.specs.declared.slots.Slot.TheVariants as slot
 use Rattle.script_text.specs.Words.{Word}
 use Rattle.script_text.specs.Numbers.{number_of}
-use Rattle.script_text.specs.Commands.{Field, NameField, NumberField, edit_word, edit_fields, command_word, command_fields, field_words, fields_words, IsField, AreFields}
-use Rattle.script_text.specs.Reading.{Slot, NameSlot, NumberSlot, ◌>>=◌, word_field, field_at, ends_at, fields_at, slots_for}
+use Rattle.script_text.specs.Keywords.{is_built}
+use Rattle.script_text.specs.Grammar.{slots, is_choice}
+use Rattle.script_text.specs.Commands.{Field, NameField, NumberField, ChoiceField, MembersField, slot_of, edit_keyword, edit_fields, command_keyword, command_fields, field_words, fields_words, IsField, AreFields, AreNames}
+use Rattle.script_text.specs.Reading.{◌>>=◌, word_field, members_of, field_at, ends_at, fields_at}
 use Rattle.script_text.proofs.Numerals.{number_sound, number_again}
 
 -- a step that gave a value
@@ -24,6 +33,14 @@ guarded : {A : Type 0} (b : Bool) (x y : A) → cond b (Some x) None ≡ Some y 
 guarded true x y e = (refl, cc)
 guarded false x y e = absurd cc
 
+chosen : (b : Bool) (x y : Field) → cond b (Some x) None ≡ Some y → (b ≡ true) × (x ≡ y)
+chosen true x y e = (refl, cc)
+chosen false x y e = absurd cc
+
+members_guarded : (b : Bool) (x y : List Word) → cond b (Some x) None ≡ Some y → (b ≡ true) × (x ≡ y)
+members_guarded true x y e = (refl, cc)
+members_guarded false x y e = absurd cc
+
 -- ---- what is read is spelled so
 
 -- the field says the one word
@@ -32,26 +49,71 @@ pub record Says (f : Field) (w : Word) : Type 0 where
   pub is : IsField f
 
 word_sound : (slot : Slot) (w : Word) (f : Field) → word_field slot w ≡ Some f → Says f w
-word_sound NameSlot w f e =
+word_sound slot.Name w f e =
     let b = bind_some (name_of w) (λ n. Some (NameField n)) f e in
     let g = guarded (is_name w) w b.0 b.1 in
     rw (← same_some (NameField b.0) f b.2, ← g.1) record { words = refl; is = g.0 }
-word_sound NumberSlot w f e =
+word_sound slot.Number w f e =
     let b = bind_some (number_of w) (λ z. Some (NumberField z)) f e in
     let g = number_sound w b.0 b.1 in
     rw (← same_some (NumberField b.0) f b.2) record { words = ap (λ (v : Word). v ∷ []) (sym g.0); is = g.1 }
+word_sound (slot.Choice c) w f e =
+    let g = chosen (is_choice c w) (ChoiceField c w) f e in
+    rw (← g.1) record { words = refl; is = g.0 }
+word_sound slot.Members w f e = absurd cc
 
 -- the field takes the first words, and leaves the rest
 pub record Takes (ws : List Word) (f : Field) (rest : List Word) : Type 0 where
   pub parts : ws ≡ field_words f ++ rest
   pub is : IsField f
 
-field_takes : (slot : Slot) (ws : List Word) (x : Field × List Word) → field_at slot ws ≡ Some x → Takes ws x.0 x.1
-field_takes slot [] x e = absurd cc
-field_takes slot (w ∷ ws) x e =
-    let b = bind_some (word_field slot w) (λ f. Some (f, ws)) x e in
-    let s = word_sound slot w b.0 b.1 in
-    subst (λ (y : Field × List Word). Takes (w ∷ ws) y.0 y.1) (same_some (b.0, ws) x b.2) record { parts = ap (λ (v : List Word). v ++ ws) (sym s.words); is = s.is }
+word_takes : (s : Slot) (w : Word) (ws : List Word) (x : Field × List Word) → (word_field s w >>= λ f. Some (f, ws)) ≡ Some x → Takes (w ∷ ws) x.0 x.1
+word_takes s w ws x e =
+    let b = bind_some (word_field s w) (λ f. Some (f, ws)) x e in
+    let t = word_sound s w b.0 b.1 in
+    subst (λ (y : Field × List Word). Takes (w ∷ ws) y.0 y.1) (same_some (b.0, ws) x b.2) record { parts = ap (λ (v : List Word). v ++ ws) (sym t.words); is = t.is }
+
+are_names : (ws : List Word) → list_all is_name ws ≡ true → AreNames ws
+are_names [] e = tt
+are_names (w ∷ ws) e = let p = and_parts (is_name w) (list_all is_name ws) e in (p.0, are_names ws p.1)
+
+some_length : (ws : List Word) → not (eqb (length ws) 0) ≡ true → 0 < length ws
+some_length [] e = absurd cc
+some_length (w ∷ ws) e = omega arith
+
+field_takes : (s : Slot) (ws : List Word) (x : Field × List Word) → field_at s ws ≡ Some x → Takes ws x.0 x.1
+field_takes slot.Members ws x e =
+    let b = bind_some (members_of ws) (λ ms. Some (MembersField ms, [])) x e in
+    let g = members_guarded (not (eqb (length ws) 0) && list_all is_name ws) ws b.0 b.1 in
+    let p = and_parts (not (eqb (length ws) 0)) (list_all is_name ws) g.0 in
+    let t : Takes ws (MembersField ws) [] = record { parts = sym (append-nil ws); is = (some_length ws p.0, are_names ws p.1) } in
+    subst (λ (y : Field × List Word). Takes ws y.0 y.1) (same_some (MembersField b.0, []) x b.2) (rw (← g.1) t)
+field_takes slot.Name [] x e = absurd cc
+field_takes slot.Number [] x e = absurd cc
+field_takes (slot.Choice c) [] x e = absurd cc
+field_takes slot.Name (w ∷ ws) x e = word_takes slot.Name w ws x e
+field_takes slot.Number (w ∷ ws) x e = word_takes slot.Number w ws x e
+field_takes (slot.Choice c) (w ∷ ws) x e = word_takes (slot.Choice c) w ws x e
+
+word_fits : (s : Slot) (w : Word) (f : Field) → word_field s w ≡ Some f → slot_of f ≡ s
+word_fits slot.Name w f e = let b = bind_some (name_of w) (λ n. Some (NameField n)) f e in rw (← same_some (NameField b.0) f b.2) refl
+word_fits slot.Number w f e = let b = bind_some (number_of w) (λ z. Some (NumberField z)) f e in rw (← same_some (NumberField b.0) f b.2) refl
+word_fits (slot.Choice c) w f e = let g = chosen (is_choice c w) (ChoiceField c w) f e in rw (← g.1) refl
+word_fits slot.Members w f e = absurd cc
+
+bound_fits : (s : Slot) (w : Word) (ws : List Word) (x : Field × List Word) → (word_field s w >>= λ f. Some (f, ws)) ≡ Some x → slot_of x.0 ≡ s
+bound_fits s w ws x e = let b = bind_some (word_field s w) (λ f. Some (f, ws)) x e in subst (λ (y : Field × List Word). slot_of y.0 ≡ s) (same_some (b.0, ws) x b.2) (word_fits s w b.0 b.1)
+
+field_fits : (s : Slot) (ws : List Word) (x : Field × List Word) → field_at s ws ≡ Some x → slot_of x.0 ≡ s
+field_fits slot.Members ws x e =
+    let b = bind_some (members_of ws) (λ ms. Some (MembersField ms, [])) x e in
+    subst (λ (y : Field × List Word). slot_of y.0 ≡ slot.Members) (same_some (MembersField b.0, []) x b.2) refl
+field_fits slot.Name [] x e = absurd cc
+field_fits slot.Number [] x e = absurd cc
+field_fits (slot.Choice c) [] x e = absurd cc
+field_fits slot.Name (w ∷ ws) x e = bound_fits slot.Name w ws x e
+field_fits slot.Number (w ∷ ws) x e = bound_fits slot.Number w ws x e
+field_fits (slot.Choice c) (w ∷ ws) x e = bound_fits (slot.Choice c) w ws x e
 
 -- the fields say the words
 pub record SaysAll (ws : List Word) (fs : List Field) : Type 0 where
@@ -62,34 +124,97 @@ ends_sound : (ws : List Word) (fs : List Field) → ends_at ws ≡ Some fs → S
 ends_sound [] fs e = rw (← same_some [] fs e) record { words = refl; are = tt }
 ends_sound (w ∷ ws) fs e = absurd cc
 
-pub fields_sound : (slots : List Slot) (ws : List Word) (fs : List Field) → fields_at slots ws ≡ Some fs → SaysAll ws fs
+pub fields_sound : (ss : List Slot) (ws : List Word) (fs : List Field) → fields_at ss ws ≡ Some fs → SaysAll ws fs
 fields_sound [] ws fs e = ends_sound ws fs e
-fields_sound (slot ∷ slots) ws fs e =
-    let a = bind_some (field_at slot ws) (λ f. fields_at slots f.1 >>= λ gs. Some (f.0 ∷ gs)) fs e in
-    let b = bind_some (fields_at slots a.0.1) (λ gs. Some (a.0.0 ∷ gs)) fs a.2 in
-    let t = field_takes slot ws a.0 a.1 in
-    let s = fields_sound slots a.0.1 b.0 b.1 in
-    rw (← same_some (a.0.0 ∷ b.0) fs b.2) record { words = t.parts ∙ ap (λ (v : List Word). field_words a.0.0 ++ v) s.words; are = (t.is, s.are) }
+fields_sound (s ∷ ss) ws fs e =
+    let a = bind_some (field_at s ws) (λ f. fields_at ss f.1 >>= λ gs. Some (f.0 ∷ gs)) fs e in
+    let b = bind_some (fields_at ss a.0.1) (λ gs. Some (a.0.0 ∷ gs)) fs a.2 in
+    let t = field_takes s ws a.0 a.1 in
+    let r = fields_sound ss a.0.1 b.0 b.1 in
+    rw (← same_some (a.0.0 ∷ b.0) fs b.2) record { words = t.parts ∙ ap (λ (v : List Word). field_words a.0.0 ++ v) r.words; are = (t.is, r.are) }
+
+none_left : (ws : List Word) (fs : List Field) → ends_at ws ≡ Some fs → map slot_of fs ≡ []
+none_left [] fs e = rw (← same_some [] fs e) refl
+none_left (w ∷ ws) fs e = absurd cc
+
+pub fields_fit : (ss : List Slot) (ws : List Word) (fs : List Field) → fields_at ss ws ≡ Some fs → map slot_of fs ≡ ss
+fields_fit [] ws fs e = none_left ws fs e
+fields_fit (s ∷ ss) ws fs e =
+    let a = bind_some (field_at s ws) (λ f. fields_at ss f.1 >>= λ gs. Some (f.0 ∷ gs)) fs e in
+    let b = bind_some (fields_at ss a.0.1) (λ gs. Some (a.0.0 ∷ gs)) fs a.2 in
+    let first : slot_of a.0.0 ≡ s = field_fits s ws a.0 a.1 in
+    let rest : map slot_of b.0 ≡ ss = fields_fit ss a.0.1 b.0 b.1 in
+    rw (← same_some (a.0.0 ∷ b.0) fs b.2, first, rest) refl
 
 -- ---- what is spelled so is read
 
-pub slot_of : Field → Slot
-slot_of (NameField n) = NameSlot
-slot_of (NumberField z) = NumberSlot
+-- members stand last
+abbrev members_last : List Slot → Bool
+members_last [] = true
+members_last (slot.Members ∷ []) = true
+members_last (slot.Members ∷ s ∷ ss) = false
+members_last (slot.Name ∷ ss) = members_last ss
+members_last (slot.Number ∷ ss) = members_last ss
+members_last (slot.Choice c ∷ ss) = members_last ss
 
-pub fields_again : (fs : List Field) → AreFields fs → fields_at (map slot_of fs) (fields_words fs) ≡ Some fs
-unfolding slot_of
-fields_again [] h = refl
-fields_again (NameField n ∷ fs) h = rw (h.0, fields_again fs h.1) refl
-fields_again (NumberField z ∷ fs) h = rw (number_again z h.0, fields_again fs h.1) refl
+all_names : (ws : List Word) → AreNames ws → list_all is_name ws ≡ true
+all_names [] h = refl
+all_names (w ∷ ws) h = rw (h.0, all_names ws h.1) refl
+
+members_again : (ms : List Word) → 0 < length ms → AreNames ms → members_of ms ≡ Some ms
+members_again [] lt h = absurd (omega arith)
+members_again (m ∷ ms) lt h = let t : eqb (length (m ∷ ms)) 0 ≡ false = ne_eqb _ _ (λ z. omega arith) in rw (t, all_names (m ∷ ms) h) refl
+
+again : (fs : List Field) → members_last (map slot_of fs) ≡ true → AreFields fs → fields_at (map slot_of fs) (fields_words fs) ≡ Some fs
+again [] last h = refl
+again (MembersField ms ∷ []) last h = rw (append-nil, members_again ms h.0.0 h.0.1) refl
+again (MembersField ms ∷ f ∷ fs) last h = absurd cc
+again (NameField n ∷ fs) last h = rw (h.0, again fs last h.1) refl
+again (NumberField z ∷ fs) last h = rw (number_again z h.0, again fs last h.1) refl
+again (ChoiceField c w ∷ fs) last h = rw (h.0, again fs last h.1) refl
 
 -- ---- the table, a line for each command
 
-edit_slots : (e : Edit) → slots_for (edit_word e) ≡ Some (map slot_of (edit_fields e))
-unfolding slot_of
+last_again : (k : Keyword) → members_last (slots k) ≡ true
+last_again keyword.Box = refl
+last_again keyword.Oval = refl
+last_again keyword.Diamond = refl
+last_again keyword.Size = refl
+last_again keyword.Move = refl
+last_again keyword.Shift = refl
+last_again keyword.Hold = refl
+last_again keyword.Free = refl
+last_again keyword.Remove = refl
+last_again keyword.Link = refl
+last_again keyword.Unlink = refl
+last_again keyword.Guide = refl
+last_again keyword.Align = refl
+last_again keyword.Spread = refl
+last_again keyword.Rank = refl
+last_again keyword.Apart = refl
+last_again keyword.Group = refl
+last_again keyword.Page = refl
+last_again keyword.Drop = refl
+last_again keyword.Undo = refl
+last_again keyword.Layout = refl
+last_again keyword.Where = refl
+
+-- fields that fit the slots of a command are read from their words
+pub fields_again : (k : Keyword) (fs : List Field) → map slot_of fs ≡ slots k → AreFields fs → fields_at (slots k) (fields_words fs) ≡ Some fs
+fields_again k fs fit h =
+    let last : members_last (map slot_of fs) ≡ true = ap members_last fit ∙ last_again k in
+    subst (λ (ss : List Slot). fields_at ss (fields_words fs) ≡ Some fs) fit (again fs last h)
+
+edit_slots : (e : Edit) → map slot_of (edit_fields e) ≡ slots (edit_keyword e)
 edit_slots (edit.Put n form.Box x y w h) = refl
 
-pub slots_again : (c : Command) → slots_for (command_word c) ≡ Some (map slot_of (command_fields c))
-unfolding slot_of
-slots_again (command.Edit e) = edit_slots e
-slots_again command.Layout = refl
+pub command_slots : (c : Command) → map slot_of (command_fields c) ≡ slots (command_keyword c)
+command_slots (command.Edit e) = edit_slots e
+command_slots command.Layout = refl
+
+edit_built : (e : Edit) → is_built (edit_keyword e) ≡ true
+edit_built (edit.Put n form.Box x y w h) = refl
+
+pub built_again : (c : Command) → is_built (command_keyword c) ≡ true
+built_again (command.Edit e) = edit_built e
+built_again command.Layout = refl

@@ -1,9 +1,13 @@
+pub mod Table
+pub mod FieldSlots
 pub mod Cutting
 pub mod Numerals
 pub mod Laws
-pub mod Loop
 pub mod WholeLines
 pub mod Bytes
-pub mod WholeScripts
+pub mod Loop
 pub mod Texts
+pub mod Reach
+pub mod FaultKinds
+pub mod WholeFaults
 mod Examples

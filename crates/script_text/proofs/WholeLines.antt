@@ -1,25 +1,34 @@
 -- Lines: what is read is spelled so, and what is spelled so is read.
-use Rattle.std.proofs.Common.{◌≡◌, ℕ, ◌+◌, ◌-◌, ◌<◌, ◌≤◌, true, false, ltb, leb, eqb, List, [], ◌∷◌, ◌++◌, length, map, drop, get_or, All, Option, Some, None, Result, Ok, Err, refl, sym, ap, subst, ◌∙◌, append_assoc, arith}
-use Rattle.std.specs.Prelude.{⊤, decimal}
+use Rattle.std.proofs.Common.{◌≡◌, ℕ, ◌+◌, ◌-◌, ◌<◌, ◌≤◌, Bool, true, false, cond, ltb, leb, eqb, List, [], ◌∷◌, ◌++◌, length, map, drop, get_or, All, Option, Some, None, Result, Ok, Err, refl, sym, ap, subst, ◌∙◌, append_assoc, arith}
+use Rattle.std.specs.Prelude.{⊤, decimal, slice_index}
 use Rattle.std.specs.List.{join_with_byte, concat}
 use Rattle.std.proofs.lemmas.Fmt.{decimal_digit}
-use Rattle.std.proofs.lemmas.Bool.{eqb-true, le-ltb, lt-leb, and_parts, le-leb, leb-true}
+use Rattle.std.proofs.lemmas.Bool.{eqb-true, le-ltb, lt-leb, and_parts, le-leb, leb-true, ltb-false, leb-false, not-false}
 use Rattle.std.proofs.lemmas.List.Splits.{slice_split_at, slice_split_none, join_with_byte-slice_split}
 use Rattle.script_text.specs.Words.{Word, spaced}
 use Rattle.script_text.specs.Pieces.{pieces}
-use Rattle.script_text.specs.Commands.{Field, IsCommand, command_words, command_word, command_fields, fields_words}
+use Rattle.script_text.specs.Keywords.{keyword_word, is_built}
+use Rattle.script_text.specs.Grammar.{slots}
+use Rattle.script_text.specs.Commands.{Field, IsCommand, command_words, command_keyword, command_fields, fields_words}
 use Rattle.script_text.specs.Scripts.{line_text, IsLine}
-use Rattle.script_text.specs.Reading.{Slot, Parts, parts, LineParts, line_parts, slots_for, fields_at, parts_or, command_at, command_by, line_at, with_session}
+use Rattle.script_text.specs.Reading.{Parts, parts, LineParts, line_parts, keyword_of, fields_at, parts_or, command_at, command_by, line_at, with_session, begins_session}
 use Rattle.script_text.specs.declared.scripts.Command.{Command}
 use Rattle.script_text.specs.declared.scripts.Line.{Line}
+use Rattle.script_text.specs.declared.keywords.Keyword.{Keyword}
 use Rattle.script_text.specs.declared.faults.FaultKind.{FaultKind}
-use Rattle.script_text.proofs.Laws.{slots_again, fields_again, fields_sound, SaysAll}
-use Rattle.script_text.proofs.Loop.{good_line}
+use Rattle.script_text.specs.declared.faults.FaultKind.TheVariants as kind
+use Rattle.script_text.proofs.Table.{keyword_again, keyword_sound}
+use Rattle.script_text.proofs.Laws.{command_slots, built_again, fields_again, fields_sound, SaysAll}
 
 -- ---- a command
 
+command_by_again : (ws : List Word) (r : Option Keyword) (k : Keyword) (fs : List Field) → r ≡ Some k → is_built k ≡ true → fields_at (slots k) ws ≡ Some fs → command_by ws r ≡ Ok (k, fs)
+command_by_again ws r k fs e built fields = rw (e, fields, built) refl
+
 command_again : (c : Command) → IsCommand c → command_at (command_words c) ≡ Ok (parts c)
-command_again c h = rw (slots_again c, fields_again (command_fields c) h) refl
+command_again c h =
+    let fields : fields_at (slots (command_keyword c)) (fields_words (command_fields c)) ≡ Some (command_fields c) = fields_again (command_keyword c) (command_fields c) (command_slots c) h in
+    command_by_again (fields_words (command_fields c)) (keyword_of (keyword_word (command_keyword c))) (command_keyword c) (command_fields c) (keyword_again (command_keyword c)) (built_again c) fields
 
 -- ---- words without the byte
 
@@ -31,7 +40,7 @@ abbrev pub AllLack : ℕ → List (List ℕ) → Type 0
 AllLack by [] = ⊤
 AllLack by (w ∷ ws) = Lacks by w × AllLack by ws
 
-split_join : (by : ℕ) (w : List ℕ) (ws : List (List ℕ)) → eqb by by ≡ true → Lacks by w → AllLack by ws → pieces by (join_with_byte by (w ∷ ws)) ≡ w ∷ ws
+pub split_join : (by : ℕ) (w : List ℕ) (ws : List (List ℕ)) → eqb by by ≡ true → Lacks by w → AllLack by ws → pieces by (join_with_byte by (w ∷ ws)) ≡ w ∷ ws
 split_join by w [] same h hs = slice_split_none (λ b. eqb b by) w h
 split_join by w (v ∷ ws) same h hs = slice_split_at (λ b. eqb b by) w by (join_with_byte by (v ∷ ws)) h same ∙ ap (λ (x : List (List ℕ)). w ∷ x) (split_join by v ws same hs.0 hs.1)
 
@@ -61,25 +70,57 @@ line_again k l lt h plain =
     let few : leb 2000 k ≡ false = lt-leb _ _ lt in
     let low : leb 49 (48 + l.session) ≡ true = le-leb _ _ (omega (arith, h.session.0)) in
     let high : leb (48 + l.session) 56 ≡ true = le-leb _ _ (omega (arith, h.session.1)) in
-    let words : pieces 32 (spaced (command_words l.command)) ≡ command_words l.command = split_join 32 (command_word l.command) (fields_words (command_fields l.command)) refl plain.is.0 plain.is.1 in
+    let words : pieces 32 (spaced (command_words l.command)) ≡ command_words l.command = split_join 32 (keyword_word (command_keyword l.command)) (fields_words (command_fields l.command)) refl plain.is.0 plain.is.1 in
     let s : 48 + l.session - 48 ≡ l.session = omega arith in
     rw (e, short, few, low, high, words, command_again l.command h.command, s) refl
 
-parts_or_ok : (w : Word) (r : Option (List Field)) (x : Parts) → parts_or w r ≡ Ok x → (fs : List Field) × (r ≡ Some fs) × (x ≡ (w, fs))
-parts_or_ok w None x e = absurd cc
-parts_or_ok w (Some fs) x e = (fs, refl, cc)
+built_ok : (b : Bool) (p x : Parts) → cond b (Ok p) (Err kind.NotYet) ≡ Ok x → x ≡ p
+built_ok true p x e = cc
+built_ok false p x e = absurd cc
 
-command_by_ok : (w : Word) (ws : List Word) (k : Option (List Slot)) (x : Parts) → command_by w ws k ≡ Ok x → (fs : List Field) × (x ≡ (w, fs)) × SaysAll ws fs
-command_by_ok w ws None x e = absurd cc
-command_by_ok w ws (Some slots) x e = let a = parts_or_ok w (fields_at slots ws) x e in (a.0, a.2, fields_sound slots ws a.0 a.1)
+parts_or_ok : (k : Keyword) (r : Option (List Field)) (x : Parts) → parts_or k r ≡ Ok x → (fs : List Field) × (r ≡ Some fs) × (x ≡ (k, fs))
+parts_or_ok k None x e = absurd cc
+parts_or_ok k (Some fs) x e = (fs, refl, built_ok (is_built k) (k, fs) x e)
+
+command_by_ok : (ws : List Word) (r : Option Keyword) (x : Parts) → command_by ws r ≡ Ok x → (k : Keyword) × (fs : List Field) × (r ≡ Some k) × (x ≡ (k, fs)) × SaysAll ws fs
+command_by_ok ws None x e = absurd cc
+command_by_ok ws (Some k) x e =
+    let a = parts_or_ok k (fields_at (slots k) ws) x e in
+    (k, a.0, refl, a.2, fields_sound (slots k) ws a.0 a.1)
+
+said : (w : Word) (ws : List Word) (c : Command) (fs : List Field) → w ≡ keyword_word (command_keyword c) → command_fields c ≡ fs → SaysAll ws fs → (w ∷ ws ≡ command_words c) × IsCommand c
+said w ws c fs is f s = let words : ws ≡ fields_words (command_fields c) = s.words ∙ ap fields_words (sym f) in (rw (is, words) refl, rw f s.are)
 
 command_sound : (ws : List Word) (c : Command) → command_at ws ≡ Ok (parts c) → (ws ≡ command_words c) × IsCommand c
 command_sound [] c e = absurd cc
 command_sound (w ∷ ws) c e =
-    let a = command_by_ok w ws (slots_for w) (parts c) e in
-    let f : command_fields c ≡ a.0 = ap (λ (x : Parts). x.1) a.1 in
-    let k : command_word c ≡ w = ap (λ (x : Parts). x.0) a.1 in
-    rw (k, f) (ap (λ (x : List Word). w ∷ x) a.2.words, a.2.are)
+    let a = command_by_ok ws (keyword_of w) (parts c) e in
+    let f : command_fields c ≡ a.1 = ap (λ (x : Parts). x.1) a.3 in
+    let k : command_keyword c ≡ a.0 = ap (λ (x : Parts). x.0) a.3 in
+    let is : w ≡ keyword_word (command_keyword c) = keyword_sound w a.0 a.2 ∙ ap keyword_word (sym k) in
+    said w ws c a.1 is f a.4
+
+-- ---- what is known of a line that is read
+
+not_err : (b : Bool) (f : FaultKind) (r : Result LineParts FaultKind) (x : LineParts) → cond b (Err f) r ≡ Ok x → (b ≡ false) × (r ≡ Ok x)
+not_err true f r x e = absurd cc
+not_err false f r x e = (refl, e)
+
+pub record GoodLine (k : ℕ) (line : List ℕ) (x : LineParts) : Type 0 where
+  pub short : length line ≤ 2048
+  pub few : k < 2000
+  pub session : begins_session line ≡ true
+  pub rest : with_session (slice_index line 0 - 48) (command_at (pieces 32 (drop 2 line))) ≡ Ok x
+
+good_line : (k : ℕ) (line : List ℕ) (x : LineParts) → line_at k line ≡ Ok x → GoodLine k line x
+good_line k line x e =
+    let a = not_err _ _ _ x e in
+    let b = not_err _ _ _ x a.1 in
+    let c = not_err _ _ _ x b.1 in
+    record { short = ltb-false _ _ a.0; few = leb-false _ _ b.0; session = not-false _ c.0; rest = c.1 }
+
+pub line_below : (k : ℕ) (line : List ℕ) (x : LineParts) → line_at k line ≡ Ok x → k < 2000
+line_below k line x e = (good_line k line x e).few
 
 abbrev ok : {A : Type 0} → A → Result A FaultKind
 ok x = Ok x
@@ -88,7 +129,7 @@ with_session_ok : (s : ℕ) (r : Result Parts FaultKind) (x : LineParts) → wit
 with_session_ok s (Ok c) x e = let p : (s, c) ≡ x = cc in (ap (λ (y : LineParts). ok y.1) p, ap (λ (y : LineParts). y.0) p)
 with_session_ok s (Err f) x e = absurd cc
 
-from_second : (line : List ℕ) → get_or line 1 0 ≡ 32 → line ≡ get_or line 0 0 ∷ 32 ∷ drop 2 line
+pub from_second : (line : List ℕ) → get_or line 1 0 ≡ 32 → line ≡ get_or line 0 0 ∷ 32 ∷ drop 2 line
 from_second [] e = absurd (omega arith)
 from_second (a ∷ []) e = absurd (omega arith)
 from_second (a ∷ b ∷ rest) e = ap (λ (x : ℕ). a ∷ x ∷ rest) e

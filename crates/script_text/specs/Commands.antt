@@ -1,6 +1,6 @@
 -- The commands of a script (they are this project's own): for each command its word and its fields, in the order
 -- of its line, and with them the words of its text.
-use Rattle.std.specs.Prelude.{◌≡◌, ◌<◌, ◌^◌, ℤ, nat_abs, List, [], ◌∷◌, ◌++◌, codes, true, ⊤}
+use Rattle.std.specs.Prelude.{◌≡◌, ◌<◌, ◌^◌, ℤ, nat_abs, List, [], ◌∷◌, ◌++◌, length, true, ⊤}
 use Rattle.std.specs.Fmt.{signed_decimal}
 use Rattle.units.specs.Name.{is_name}
 use Rattle.scene_model.specs.declared.items.Form.{Form}
@@ -10,42 +10,67 @@ use Rattle.edit_rules.specs.declared.edits.Edit.TheVariants as edit
 use Rattle.script_text.specs.declared.scripts.Command.{Command}
 use Rattle.script_text.specs.declared.scripts.Command.TheVariants as command
 use Rattle.script_text.specs.Words.{Word}
+use Rattle.script_text.specs.Keywords.{keyword_word}
+use Rattle.script_text.specs.Grammar.{is_choice}
+use Rattle.script_text.specs.declared.slots.Choice.{Choice}
+use Rattle.script_text.specs.declared.slots.Slot.{Slot}
+use Rattle.script_text.specs.declared.slots.Slot.TheVariants as slot
+use Rattle.script_text.specs.declared.keywords.Keyword.{Keyword}
+use Rattle.script_text.specs.declared.keywords.Keyword.TheVariants as keyword
 
--- a field of a command: a name, or a number
+-- a field of a command: a name, a number, a word of a choice, or a list of names
 pub data Field : Type 0 where
   NameField : Word → Field
   NumberField : ℤ → Field
+  ChoiceField : Choice → Word → Field
+  MembersField : List Word → Field
+
+-- the place where it can stand
+abbrev pub slot_of : Field → Slot
+slot_of (NameField n) = slot.Name
+slot_of (NumberField z) = slot.Number
+slot_of (ChoiceField c w) = slot.Choice c
+slot_of (MembersField ms) = slot.Members
 
 -- ---- the table: the word of each command, and its fields
 
--- the word that puts a shape of the form
-abbrev pub form_word : Form → Word
-form_word form.Box = codes "box"
+-- the command that puts a shape of the form
+abbrev pub form_keyword : Form → Keyword
+form_keyword form.Box = keyword.Box
 
--- the word of an edit: that of the form of its shape
-abbrev pub edit_word : Edit → Word
-edit_word (edit.Put n f x y w h) = form_word f
+-- the command of an edit: that of the form of its shape
+abbrev pub edit_keyword : Edit → Keyword
+edit_keyword (edit.Put n f x y w h) = form_keyword f
 
 -- the fields of an edit: the name, the place on X and on Y, the width and the height
 abbrev pub edit_fields : Edit → List Field
 edit_fields (edit.Put n f x y w h) = NameField n ∷ NumberField x ∷ NumberField y ∷ NumberField w ∷ NumberField h ∷ []
 
--- the word of a command
-abbrev pub command_word : Command → Word
-command_word (command.Edit e) = edit_word e
-command_word command.Layout = codes "layout"
+-- the keyword of a command
+abbrev pub command_keyword : Command → Keyword
+command_keyword (command.Edit e) = edit_keyword e
+command_keyword command.Layout = keyword.Layout
 
 -- the fields of a command; a layout has none
 abbrev pub command_fields : Command → List Field
 command_fields (command.Edit e) = edit_fields e
 command_fields command.Layout = []
 
+-- the word of an edit, and of a command
+abbrev pub edit_word : Edit → Word
+edit_word e = keyword_word (edit_keyword e)
+
+abbrev pub command_word : Command → Word
+command_word c = keyword_word (command_keyword c)
+
 -- ---- the words of a text
 
--- the words of a field: a name is its bytes, a number is decimal, with `-` before it below 0
+-- the words of a field: a name is its bytes, a number is decimal, with `-` before it below 0; members are their names
 abbrev pub field_words : Field → List Word
 field_words (NameField n) = n ∷ []
 field_words (NumberField z) = signed_decimal z ∷ []
+field_words (ChoiceField c w) = w ∷ []
+field_words (MembersField ms) = ms
 
 -- the words of all fields, in order
 abbrev pub fields_words : List Field → List Word
@@ -62,10 +87,17 @@ command_words c = command_word c ∷ fields_words (command_fields c)
 
 -- ---- what a script may say
 
--- a name that is one, and a number of at most 9 digits
+-- each word of a list is a name
+abbrev pub AreNames : List Word → Type 0
+AreNames [] = ⊤
+AreNames (w ∷ ws) = (is_name w ≡ true) × AreNames ws
+
+-- a name that is one, a number of at most 9 digits, a word of its choice, and one name or more
 abbrev pub IsField : Field → Type 0
 IsField (NameField n) = is_name n ≡ true
 IsField (NumberField z) = nat_abs z < 10 ^ 9
+IsField (ChoiceField c w) = is_choice c w ≡ true
+IsField (MembersField ms) = (0 < length ms) × AreNames ms
 
 -- each field of a list is one
 abbrev pub AreFields : List Field → Type 0

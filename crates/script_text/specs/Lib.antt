@@ -1,6 +1,9 @@
 pub mod Words
+pub mod Keywords
+pub mod Grammar
 pub mod Commands
 pub mod Scripts
 pub mod Pieces
 pub mod Numbers
+pub mod Faults
 pub mod Reading

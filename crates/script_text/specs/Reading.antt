@@ -1,26 +1,27 @@
 -- Reading from left to right, as functions on lists of pieces. Contracts of private functions speak of these; that
 -- they agree with the grammar is proved, and public contracts cite the grammar alone.
-use Rattle.std.specs.Prelude.{◌≡◌, ℕ, ◌+◌, ◌-◌, List, [], ◌∷◌, codes, length, map, drop, Bool, not, ◌&&◌, ◌==◌, nat_lt, nat_le, if◌then◌else◌, slice_index, bytes_eq, ⊤, Option, Some, None, Result, Ok, Err}
-use Rattle.std.specs.Global.{Vec}
-use Rattle.units.specs.Name.{name_of}
+use Rattle.std.specs.Prelude.{◌≡◌, ℕ, ◌+◌, ◌-◌, ◌≤◌, List, [], ◌∷◌, ◌++◌, codes, length, map, drop, Bool, not, ◌&&◌, ◌==◌, nat_lt, nat_le, if◌then◌else◌, slice_index, bytes_eq, ⊤, Option, Some, None, Result, Ok, Err}
+use Rattle.std.specs.List.{list_all}
+use Rattle.units.specs.Name.{is_name, name_of}
 use Rattle.script_text.specs.Words.{Word}
 use Rattle.script_text.specs.Pieces.{pieces}
 use Rattle.script_text.specs.Numbers.{number_of}
-use Rattle.script_text.specs.Commands.{Field, NameField, NumberField, command_word, command_fields}
-use Rattle.script_text.specs.Scripts.{last_session}
+use Rattle.script_text.specs.Keywords.{keyword_word, all_keywords, is_built}
+use Rattle.script_text.specs.Grammar.{slots, is_choice}
+use Rattle.script_text.specs.Commands.{Field, NameField, NumberField, ChoiceField, MembersField, command_keyword, command_fields}
+use Rattle.script_text.specs.Scripts.{last_session, line_text, AreLines}
+use Rattle.script_text.specs.declared.keywords.Keyword.{Keyword}
+use Rattle.script_text.specs.declared.slots.Slot.{Slot}
+use Rattle.script_text.specs.declared.slots.Slot.TheVariants as slot
 use Rattle.script_text.specs.declared.scripts.Command.{Command}
 use Rattle.script_text.specs.declared.scripts.Line.{Line}
 use Rattle.script_text.specs.declared.faults.FaultKind.{FaultKind}
 use Rattle.script_text.specs.declared.faults.FaultKind.TheVariants as kind
+use Rattle.script_text.specs.declared.faults.ScriptFault.{ScriptFault}
 use Rattle.script_text.specs.declared.faults.ReadFault.{ReadFault}
 use Rattle.script_text.specs.declared.faults.ReadFault.TheVariants as cause
 
 -- ---- the fields of a command
-
--- what may stand at a field
-pub data Slot : Type 0 where
-  NameSlot : Slot
-  NumberSlot : Slot
 
 -- goes on with what was read, where something was
 infixl 10 ◌>>=◌
@@ -30,13 +31,20 @@ None >>= f = None
 
 -- the field that a word is at a slot, if it is one
 abbrev pub word_field : Slot → Word → Option Field
-word_field NameSlot w = name_of w >>= λ n. Some (NameField n)
-word_field NumberSlot w = number_of w >>= λ z. Some (NumberField z)
+word_field slot.Name w = name_of w >>= λ n. Some (NameField n)
+word_field slot.Number w = number_of w >>= λ z. Some (NumberField z)
+word_field (slot.Choice c) w = if is_choice c w then Some (ChoiceField c w) else None
+word_field slot.Members w = None
 
--- a field and the words behind it
+-- the words as members, where they are one name or more
+abbrev pub members_of : List Word → Option (List Word)
+members_of ws = if not (length ws == 0) && list_all is_name ws then Some ws else None
+
+-- a field and the words behind it; members are all words
 abbrev pub field_at : Slot → List Word → Option (Field × List Word)
-field_at slot [] = None
-field_at slot (w ∷ ws) = word_field slot w >>= λ f. Some (f, ws)
+field_at slot.Members ws = members_of ws >>= λ ms. Some (MembersField ms, [])
+field_at s [] = None
+field_at s (w ∷ ws) = word_field s w >>= λ f. Some (f, ws)
 
 -- no word is left
 abbrev pub ends_at : List Word → Option (List Field)
@@ -46,45 +54,41 @@ ends_at (w ∷ ws) = None
 -- a field for each slot, and no word behind them
 abbrev pub fields_at : List Slot → List Word → Option (List Field)
 fields_at [] ws = ends_at ws
-fields_at (slot ∷ slots) ws = field_at slot ws >>= λ f. fields_at slots f.1 >>= λ fs. Some (f.0 ∷ fs)
-
--- ---- the table: what stands behind each command word
-
--- what stands behind a word that puts a shape: its name, then x, y, width and height
-abbrev pub put_slots : List Slot
-put_slots = NameSlot ∷ NumberSlot ∷ NumberSlot ∷ NumberSlot ∷ NumberSlot ∷ []
-
--- what stands behind a command word, if it is one
-abbrev pub slots_for : Word → Option (List Slot)
-slots_for w =
-    if bytes_eq w (codes "box") then Some put_slots
-    else (if bytes_eq w (codes "layout") then Some []
-    else None)
+fields_at (s ∷ rest) ws = field_at s ws >>= λ f. fields_at rest f.1 >>= λ fs. Some (f.0 ∷ fs)
 
 -- ---- a command
 
--- a command as its word and its fields
+-- the first of these commands whose word it is
+abbrev pub keyword_among : List Keyword → Word → Option Keyword
+keyword_among [] w = None
+keyword_among (k ∷ ks) w = if bytes_eq w (keyword_word k) then Some k else keyword_among ks w
+
+-- the command whose word it is, if there is one
+abbrev pub keyword_of : Word → Option Keyword
+keyword_of w = keyword_among all_keywords w
+
+-- a command as its keyword and its fields
 abbrev pub Parts : Type 0
-Parts = Word × List Field
+Parts = Keyword × List Field
 
--- the word and the fields of a command
+-- the keyword and the fields of a command
 abbrev pub parts : Command → Parts
-parts c = (command_word c, command_fields c)
+parts c = (command_keyword c, command_fields c)
 
--- a word with the fields that were read, or the fault where none were
-abbrev pub parts_or : Word → Option (List Field) → Result Parts FaultKind
-parts_or w None = Err kind.NotYet
-parts_or w (Some fs) = Ok (w, fs)
+-- a keyword with the fields that were read, or the fault where none were or the command isn't built
+abbrev pub parts_or : Keyword → Option (List Field) → Result Parts FaultKind
+parts_or k None = Err kind.Fields
+parts_or k (Some fs) = if is_built k then Ok (k, fs) else Err kind.NotYet
 
--- the command of a word and the words behind it, by what may stand there
-abbrev pub command_by : Word → List Word → Option (List Slot) → Result Parts FaultKind
-command_by w ws None = Err kind.NotYet
-command_by w ws (Some slots) = parts_or w (fields_at slots ws)
+-- the command with these words behind its keyword
+abbrev pub command_by : List Word → Option Keyword → Result Parts FaultKind
+command_by ws None = Err kind.Command
+command_by ws (Some k) = parts_or k (fields_at (slots k) ws)
 
 -- the command with these words
 abbrev pub command_at : List Word → Result Parts FaultKind
-command_at [] = Err kind.NotYet
-command_at (w ∷ ws) = command_by w ws (slots_for w)
+command_at [] = Err kind.Command
+command_at (w ∷ ws) = command_by ws (keyword_of w)
 
 -- ---- a line
 
@@ -108,56 +112,69 @@ with_session s (Err f) = Err f
 -- the command line behind k others
 abbrev pub line_at : ℕ → List ℕ → Result LineParts FaultKind
 line_at k line =
-    if nat_lt 2048 (length line) then Err kind.NotYet
-    else (if nat_le 2000 k then Err kind.NotYet
-    else (if not (begins_session line) then Err kind.NotYet
+    if nat_lt 2048 (length line) then Err kind.Long
+    else (if nat_le 2000 k then Err kind.TooMany
+    else (if not (begins_session line) then Err kind.Session
     else with_session (slice_index line 0 - 48) (command_at (pieces 32 (drop 2 line)))))
 
 -- ---- a script
 
--- what is read: command lines, or a fault
-abbrev pub Read : Type 0
-Read = Result (List LineParts) FaultKind
+-- the pieces behind the header of a script: its command lines, the line `end`, and nothing behind the last LF
+abbrev pub body_pieces : List Line → List (List ℕ)
+body_pieces lines = map line_text lines ++ codes "end" ∷ [] ∷ []
 
--- a line before others that were read
-abbrev pub put_front : LineParts → Read → Read
-put_front l (Ok ls) = Ok (l ∷ ls)
-put_front l (Err f) = Err f
+-- the pieces of a script
+abbrev pub script_pieces : List Line → List (List ℕ)
+script_pieces lines = codes "dunnart 1" ∷ body_pieces lines
 
--- a line that was read, then the others; its fault comes first
-abbrev pub then_more : Result LineParts FaultKind → Read → Read
-then_more (Err f) more = Err f
-then_more (Ok l) more = put_front l more
+-- ---- where reading stops
 
--- behind the line `end` the last piece is empty
-abbrev pub closing : List (List ℕ) → Read
-closing ([] ∷ []) = Ok []
-closing _ = Err kind.NotYet
+-- a fault in the line of this number
+abbrev pub fault_at : ℕ → FaultKind → ScriptFault
+fault_at line kind = record { line = line; kind = kind }
 
--- the lines behind k command lines; the last piece has no LF, and is no line
-unfoldable pub lines_at : ℕ → List (List ℕ) → Read
-lines_at k [] = Err kind.NotYet
-lines_at k (last ∷ []) = Err kind.NotYet
-lines_at k (line ∷ next ∷ more) =
-    if bytes_eq line (codes "end") then closing (next ∷ more) else then_more (line_at k line) (lines_at (k + 1) (next ∷ more))
+-- the bytes end before or within the last piece
+abbrev pub last_kind : List ℕ → FaultKind
+last_kind last = if length last == 0 then kind.Missing else kind.Cut
 
--- the lines of a script whose first line is the header
-abbrev pub script_at : List (List ℕ) → Read
-script_at [] = Err kind.NotYet
-script_at (last ∷ []) = Err kind.NotYet
-script_at (line ∷ next ∷ more) = if bytes_eq line (codes "dunnart 1") then lines_at 0 (next ∷ more) else Err kind.NotYet
+-- the fault of the first line, where it isn't the header
+abbrev pub header_stop : List (List ℕ) → Option ScriptFault
+header_stop [] = Some (fault_at 1 kind.Missing)
+header_stop (last ∷ []) = Some (fault_at 1 (last_kind last))
+header_stop (line ∷ next ∷ more) = if bytes_eq line (codes "dunnart 1") then None else Some (fault_at 1 kind.Header)
 
--- the lines have numbers in order, from this one on
-abbrev pub AreNumbered : ℕ → List Line → Type 0
-AreNumbered number [] = ⊤
-AreNumbered number (l ∷ ls) = (l.number ≡ number) × AreNumbered (number + 1) ls
+-- the fault behind k command lines and the line `end`, unless the last piece is empty
+abbrev pub end_stop : ℕ → List (List ℕ) → Option ScriptFault
+end_stop k ([] ∷ []) = None
+end_stop k _ = Some (fault_at (k + 3) kind.After)
 
--- what a function answered in place of a script: the fault of what is read, unless memory ran out
-abbrev pub Fails : ReadFault → Read → Type 0
-Fails cause.Memory read = ⊤
-Fails (cause.Fault fault) read = (fault.line ≡ 0) × (read ≡ Err fault.kind)
+-- the fault of the line behind k command lines, where it isn't read
+abbrev pub line_stop : ℕ → Result LineParts FaultKind → Option ScriptFault
+line_stop k (Ok l) = None
+line_stop k (Err f) = Some (fault_at (k + 2) f)
 
--- what a function returned is what is read, unless memory ran out
-abbrev pub Exact : Result (Vec Line) ReadFault → Read → Type 0
-Exact (Ok v) read = (read ≡ Ok (map line_parts v.items)) × AreNumbered 2 v.items
-Exact (Err e) read = Fails e read
+-- the fault of what is left behind k command lines, where its first line isn't read
+abbrev pub body_stop : ℕ → List (List ℕ) → Option ScriptFault
+body_stop k [] = Some (fault_at (k + 2) kind.Missing)
+body_stop k (last ∷ []) = Some (fault_at (k + 2) (last_kind last))
+body_stop k (line ∷ next ∷ more) = if bytes_eq line (codes "end") then end_stop k (next ∷ more) else line_stop k (line_at k line)
+
+-- the command lines in front are read, and what is left behind them has the fault
+pub record StopsBehind (body : List (List ℕ)) (fault : ScriptFault) : Type 0 where
+  pub front : List Line
+  pub are : AreLines 2 front
+  pub few : length front ≤ 2000
+  pub left : List (List ℕ)
+  pub some : left ≡ [] → ⊥
+  pub is : body ≡ map line_text front ++ left
+  pub stop : body_stop (length front) left ≡ Some fault
+
+-- the header has the fault, or is read, and what stands behind it has the fault
+pub data Stops (pieces_of_script : List (List ℕ)) (fault : ScriptFault) : Type 0 where
+  AtHeader : header_stop pieces_of_script ≡ Some fault → Stops pieces_of_script fault
+  Behind : (body : List (List ℕ)) → pieces_of_script ≡ codes "dunnart 1" ∷ body → StopsBehind body fault → Stops pieces_of_script fault
+
+-- what a function answered in place of a value: this fault, unless memory ran out
+abbrev pub Answers : (ScriptFault → Type 0) → ReadFault → Type 0
+Answers Is cause.Memory = ⊤
+Answers Is (cause.Fault fault) = Is fault

@@ -4,10 +4,6 @@ use Rattle.std.specs.List.{concat}
 use Rattle.script_text.specs.Words.{spaced}
 use Rattle.script_text.specs.Commands.{IsCommand, command_words}
 use Rattle.script_text.specs.declared.scripts.Line.{Line}
-use Rattle.script_text.specs.declared.faults.FaultKind.TheVariants as kind
-use Rattle.script_text.specs.declared.faults.ScriptFault.{ScriptFault}
-use Rattle.script_text.specs.declared.faults.ReadFault.{ReadFault}
-use Rattle.script_text.specs.declared.faults.ReadFault.TheVariants as cause
 
 -- ---- what a script is
 
@@ -55,18 +51,6 @@ pub record Spells (bytes : List ℕ) (lines : List Line) : Type 0 where
   pub script : IsScript lines
   pub text : bytes ≡ script_bytes lines
 
--- ---- faults
-
 -- no script has these bytes
 abbrev pub SpellsNone : List ℕ → Type 0
 SpellsNone bytes = (lines : List Line) → Spells bytes lines → ⊥
-
--- the fault of bytes that spell no script: NotYet, of no line, until every command can be read
-pub record IsFault (bytes : List ℕ) (fault : ScriptFault) : Type 0 where
-  pub none : SpellsNone bytes
-  pub is : fault ≡ record { line = 0; kind = kind.NotYet }
-
--- why bytes are not read: they have the fault, or memory ran out
-abbrev pub IsCause : List ℕ → ReadFault → Type 0
-IsCause bytes (cause.Fault fault) = IsFault bytes fault
-IsCause bytes cause.Memory = ⊤

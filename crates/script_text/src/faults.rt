@@ -4,17 +4,35 @@ ghost use Rattle.std.specs.Prelude.{◌≡◌};
 use std::alloc::AllocFailed;
 use units::Memory;
 
-/// What is wrong with a line.
+/// What is wrong with a line, in the order in which it is asked: the kind of a fault is the first that holds.
 #[derive(Clone, Copy, Debug, PartialEq, Eq)]
 pub enum FaultKind {
-    /// The bytes are no script whose commands can be read yet.
+    /// The line before it is `end`, and bytes follow that.
+    After,
+    /// The bytes end before the line.
+    Missing,
+    /// The bytes end within the line: it has no LF.
+    Cut,
+    /// It is line 1, and not `dunnart 1`.
+    Header,
+    /// It has more than 2,048 bytes.
+    Long,
+    /// 2,000 command lines stand before it.
+    TooMany,
+    /// It doesn't begin with the digit of a session and a space.
+    Session,
+    /// Its word is that of no command.
+    Command,
+    /// Its command is none that this program has yet.
     NotYet,
+    /// Its fields are not those of its command.
+    Fields,
 }
 
 /// The fault of bytes that spell no script.
 #[derive(Clone, Copy, Debug, PartialEq, Eq)]
 pub struct ScriptFault {
-    /// The number of the line, or 0 where the kind is of no line.
+    /// The number of the line, from 1 on: 1 to 2,003.
     pub line: u32,
     pub kind: FaultKind,
 }

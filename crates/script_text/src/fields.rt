@@ -1,24 +1,32 @@
 //! Reading the fields of a command, and commands.
-ghost use Rattle.std.specs.Prelude.{◌≡◌, [], Some, None, MatchOption, MatchResult, codes, Ok, Err};
-ghost use Rattle.script_text.specs.Commands.{NameField, NumberField, edit_word, edit_fields, form_word};
-ghost use Rattle.script_text.specs.Reading.{NameSlot, NumberSlot, field_at, ends_at, fields_at, put_slots, parts, command_at};
+ghost use Rattle.std.specs.Prelude.{◌≡◌, [], false, Some, None, MatchOption, MatchResult, codes, Ok, Err};
+ghost use Rattle.script_text.specs.Commands.{NameField, NumberField, edit_keyword, edit_fields, form_keyword};
+ghost use Rattle.script_text.specs.Keywords.{is_built};
+ghost use Rattle.script_text.specs.Grammar.{put_slots};
+ghost use Rattle.script_text.specs.Reading.{field_at, ends_at, fields_at, parts, command_by, command_at};
+ghost use Rattle.script_text.specs.declared.slots.Slot.TheVariants as slot;
 
 use crate::faults::FaultKind;
+use crate::fitting::fits;
+use crate::keywords::{Keyword, read_keyword};
 use crate::numbers::number;
 use crate::pieces::Pieces;
 use crate::scripts::Command;
+use crate::slots::slots;
 use edit_rules::Edit;
 use scene_model::Form;
 use units::Name;
 
-fn name_field(words: &mut Pieces<'_>) -> Option<Name>
-    ensures { MatchOption result (field_at NameSlot words.old ≡ None) (λ n. field_at NameSlot words.old ≡ Some (NameField n, words.new)) }
+/// A name.
+pub fn name_field(words: &mut Pieces<'_>) -> Option<Name>
+    ensures { MatchOption result (field_at slot.Name words.old ≡ None) (λ n. field_at slot.Name words.old ≡ Some (NameField n, words.new)) }
 {
     Name::of(words.next()?)
 }
 
-fn number_field(words: &mut Pieces<'_>) -> Option<i32>
-    ensures { MatchOption result (field_at NumberSlot words.old ≡ None) (λ z. field_at NumberSlot words.old ≡ Some (NumberField z, words.new)) }
+/// A number.
+pub fn number_field(words: &mut Pieces<'_>) -> Option<i32>
+    ensures { MatchOption result (field_at slot.Number words.old ≡ None) (λ z. field_at slot.Number words.old ≡ Some (NumberField z, words.new)) }
 {
     number(words.next()?)
 }
@@ -31,7 +39,7 @@ fn end(words: &Pieces<'_>) -> Option<()>
 
 fn put(form: Form, words: &mut Pieces<'_>) -> Option<Edit>
     ensures { MatchOption result (fields_at put_slots words.old ≡ None)
-        (λ e. (edit_word e ≡ form_word form) × (fields_at put_slots words.old ≡ Some (edit_fields e))) }
+        (λ e. (edit_keyword e ≡ form_keyword form) × (fields_at put_slots words.old ≡ Some (edit_fields e))) }
 {
     let edit = Edit::Put {
         name: name_field(words)?,
@@ -45,20 +53,33 @@ fn put(form: Form, words: &mut Pieces<'_>) -> Option<Edit>
     Some(edit)
 }
 
+/// The fault of a command that isn't built: that, or its fields.
+fn unbuilt(keyword: Keyword, words: &mut Pieces<'_>) -> FaultKind
+    requires { is_built keyword ≡ false }
+    ensures { command_by words.old (Some keyword) ≡ Err result }
+{
+    if fits(slots(keyword), words) {
+        FaultKind::NotYet
+    } else {
+        FaultKind::Fields
+    }
+}
+
 /// The command with these words.
 pub fn command(words: &mut Pieces<'_>) -> Result<Command, FaultKind>
     ensures { MatchResult result (λ c. command_at words.old ≡ Ok (parts c)) (λ f. command_at words.old ≡ Err f) }
 {
-    let Some(word) = words.next() else {
-        return Err(FaultKind::NotYet);
-    };
-    if word == b"box".as_slice() {
-        let edit = put(Form::Box, words).ok_or(FaultKind::NotYet)?;
-        return Ok(Command::Edit(edit));
+    let word = words.next().ok_or(FaultKind::Command)?;
+    let keyword = read_keyword(word).ok_or(FaultKind::Command)?;
+    match keyword {
+        Keyword::Box => {
+            let edit = put(Form::Box, words).ok_or(FaultKind::Fields)?;
+            Ok(Command::Edit(edit))
+        }
+        Keyword::Layout => {
+            end(words).ok_or(FaultKind::Fields)?;
+            Ok(Command::Layout)
+        }
+        other => Err(unbuilt(other, words)),
     }
-    if word == b"layout".as_slice() {
-        end(words).ok_or(FaultKind::NotYet)?;
-        return Ok(Command::Layout);
-    }
-    Err(FaultKind::NotYet)
 }

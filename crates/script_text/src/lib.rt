@@ -3,12 +3,15 @@
 
 pub mod faults;
 mod fields;
+mod fitting;
+pub mod keywords;
 mod lines;
 mod numbers;
 mod pieces;
 pub mod printing;
 pub mod reading;
 pub mod scripts;
+pub mod slots;
 
 pub use faults::{FaultKind, ReadFault, ScriptFault};
 pub use printing::{command_text, edit_text};

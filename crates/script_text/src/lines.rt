@@ -22,11 +22,14 @@ pub fn line(before: usize, bytes: &[u8]) -> Result<Line, FaultKind>
     requires { before ≤ 2000 }
     ensures { MatchResult result (λ l. (line_at before bytes.now ≡ Ok (line_parts l)) × (l.number ≡ before + 2)) (λ f. line_at before bytes.now ≡ Err f) }
 {
-    if bytes.len() > LONGEST || before >= MOST_LINES {
-        return Err(FaultKind::NotYet);
+    if bytes.len() > LONGEST {
+        return Err(FaultKind::Long);
+    }
+    if before >= MOST_LINES {
+        return Err(FaultKind::TooMany);
     }
     if bytes.len() < 2 || !(b'1'..=LAST_SESSION).contains(&bytes[0]) || bytes[1] != b' ' {
-        return Err(FaultKind::NotYet);
+        return Err(FaultKind::Session);
     }
     let mut words = Pieces::new(&bytes[2..], b' ');
     let command = command(&mut words)?;

@@ -2,8 +2,9 @@
 ghost use Rattle.std.specs.Prelude.{◌≡◌, ◌∷◌, ◌++◌, OnOk, IfOk};
 ghost use Rattle.std.specs.Fmt.{signed_decimal};
 ghost use Rattle.script_text.specs.Words.{spaced};
-ghost use Rattle.script_text.specs.Commands.{form_word, edit_words, command_words};
+ghost use Rattle.script_text.specs.Commands.{form_keyword, edit_words, command_words};
 
+use crate::keywords::{Keyword, add_keyword};
 use crate::scripts::Command;
 use edit_rules::Edit;
 use scene_model::Form;
@@ -27,11 +28,11 @@ fn add_number(alloc: Global, text: &mut Vec<u8>, number: i32) -> Result<(), Allo
     add_word(text, digits.as_bytes())
 }
 
-fn form_word(form: Form) -> &'static [u8]
-    ensures { result.now ≡ form_word form }
+fn form_keyword(form: Form) -> Keyword
+    ensures { result ≡ form_keyword form }
 {
     match form {
-        Form::Box => b"box",
+        Form::Box => Keyword::Box,
     }
 }
 
@@ -50,7 +51,7 @@ pub fn edit_text(alloc: Global, edit: &Edit) -> Result<Vec<u8>, Memory>
             w,
             h,
         } => {
-            text.extend_from_slice(form_word(*form))?;
+            add_keyword(&mut text, form_keyword(*form))?;
             add_word(&mut text, name.bytes())?;
             add_number(alloc, &mut text, *x)?;
             add_number(alloc, &mut text, *y)?;
@@ -68,6 +69,10 @@ pub fn command_text(alloc: Global, command: &Command) -> Result<Vec<u8>, Memory>
 {
     match command {
         Command::Edit(edit) => edit_text(alloc, edit),
-        Command::Layout => Ok(Vec::from_slice(alloc, b"layout")?),
+        Command::Layout => {
+            let mut text = Vec::new(alloc);
+            add_keyword(&mut text, Keyword::Layout)?;
+            Ok(text)
+        }
     }
 }

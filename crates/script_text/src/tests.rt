@@ -55,26 +55,58 @@ fn scripts_are_read(rt: HostRuntime) -> Result<(), Fail> {
     Ok(())
 }
 
+fn fault(line: u32, kind: FaultKind) -> ReadFault {
+    ReadFault::Fault(ScriptFault { line, kind })
+}
+
 #[test]
-fn near_misses_are_refused(rt: HostRuntime) -> Result<(), Fail> {
-    let fault = Err(ReadFault::Fault(ScriptFault {
-        line: 0,
-        kind: FaultKind::NotYet,
-    }));
+fn faults_have_lines_and_kinds(rt: HostRuntime) -> Result<(), Fail> {
+    for (text, line, kind) in [
+        ("", 1, FaultKind::Missing),
+        ("dunnart 1", 1, FaultKind::Cut),
+        ("dunnart 2\nend\n", 1, FaultKind::Header),
+        ("Dunnart 1\nend\n", 1, FaultKind::Header),
+        ("dunnart 1\r\nend\n", 1, FaultKind::Header),
+        ("dunnart 1\n", 2, FaultKind::Missing),
+        ("dunnart 1\nend", 2, FaultKind::Cut),
+        ("dunnart 1\n1 box a 0", 2, FaultKind::Cut),
+        ("dunnart 1\n1 layout\n", 3, FaultKind::Missing),
+        ("dunnart 1\n1 layout", 2, FaultKind::Cut),
+        ("dunnart 1\n1 layout\nEnd\n", 3, FaultKind::Session),
+        ("dunnart 1\n1 layout\nend\n\n", 4, FaultKind::After),
+        ("dunnart 1\n1 layout\nend\n1 layout\n", 4, FaultKind::After),
+        ("dunnart 1\nend\nx", 3, FaultKind::After),
+        ("dunnart 1\n\n1 layout\nend\n", 2, FaultKind::Session),
+        ("dunnart 1\n0 layout\nend\n", 2, FaultKind::Session),
+        ("dunnart 1\n2 layout\nend\n", 2, FaultKind::Session),
+        ("dunnart 1\n9 layout\nend\n", 2, FaultKind::Session),
+        ("dunnart 1\n11 layout\nend\n", 2, FaultKind::Session),
+        ("dunnart 1\n1\nend\n", 2, FaultKind::Session),
+        ("dunnart 1\n 1 layout\nend\n", 2, FaultKind::Session),
+        ("dunnart 1\n1 \nend\n", 2, FaultKind::Command),
+        ("dunnart 1\n1  layout\nend\n", 2, FaultKind::Command),
+        ("dunnart 1\n1 bax a 3 4 40 20\nend\n", 2, FaultKind::Command),
+        ("dunnart 1\n1 Box a 0 0 10 10\nend\n", 2, FaultKind::Command),
+        ("dunnart 1\n1 undo\nend\n", 2, FaultKind::NotYet),
+        (
+            "dunnart 1\n1 layout\n1 where a\nend\n",
+            3,
+            FaultKind::NotYet,
+        ),
+    ] {
+        assert_eq!(rt;
+            count(rt.alloc(), text.as_bytes()),
+            Err(fault(line, kind)),
+            "{text}"
+        );
+    }
+    Ok(())
+}
+
+#[test]
+fn fields_are_refused(rt: HostRuntime) -> Result<(), Fail> {
     for text in [
-        "",
-        "dunnart 1\n",
-        "dunnart 1\nend",
-        "dunnart 2\nend\n",
-        "Dunnart 1\nend\n",
-        "dunnart 1\r\nend\n",
-        "dunnart 1\n1 layout\n",
-        "dunnart 1\n1 layout",
-        "dunnart 1\n1 layout\nEnd\n",
-        "dunnart 1\n1 layout\nend\n\n",
-        "dunnart 1\n1 layout\nend\n1 layout\n",
-        "dunnart 1\n\n1 layout\nend\n",
-        "dunnart 1\n1 bax a 3 4 40 20\nend\n",
+        "dunnart 1\n1 layout \nend\n",
         "dunnart 1\n1 box a 3 4 40 20 \nend\n",
         "dunnart 1\n1 box a 3 4 40\nend\n",
         "dunnart 1\n1 box a 3 4 40 20 7\nend\n",
@@ -86,15 +118,97 @@ fn near_misses_are_refused(rt: HostRuntime) -> Result<(), Fail> {
         "dunnart 1\n1 box a 1234567890 4 40 20\nend\n",
         "dunnart 1\n1 box a234567890123456789012345 3 4 40 20\nend\n",
         "dunnart 1\n1 box 2a 3 4 40 20\nend\n",
-        "dunnart 1\n0 layout\nend\n",
-        "dunnart 1\n0 layout\nend\n",
-        "dunnart 1\n9 layout\nend\n",
-        "dunnart 1\n11 layout\nend\n",
-        "dunnart 1\n1 undo\nend\n",
-        "dunnart 1\n1  layout\nend\n",
-        "dunnart 1\n 1 layout\nend\n",
     ] {
-        assert_eq!(rt; count(rt.alloc(), text.as_bytes()), fault, "{text}");
+        assert_eq!(rt;
+            count(rt.alloc(), text.as_bytes()),
+            Err(fault(2, FaultKind::Fields)),
+            "{text}"
+        );
+    }
+    Ok(())
+}
+
+/// The kind of the fault of a script whose first command is this one; None where there is no fault.
+fn kind_of(alloc: Global, command: &str) -> Result<Option<FaultKind>, Fail> {
+    let text = format!(in alloc; "dunnart 1\n1 {command}\nend\n")?;
+    match read(alloc, text.as_bytes()) {
+        Ok(_) => Ok(None),
+        Err(ReadFault::Fault(ScriptFault { line: 2, kind })) => Ok(Some(kind)),
+        Err(_) => Err(Fail::from("a fault in line 2")),
+    }
+}
+
+#[test]
+fn commands_that_are_not_built(rt: HostRuntime) -> Result<(), Fail> {
+    for command in [
+        "oval a 0 0 10 10",
+        "diamond a -5 0 10 10",
+        "size a 10 999999999",
+        "move a 0 -1",
+        "shift g -5",
+        "hold a",
+        "free a",
+        "remove a",
+        "link l a b",
+        "unlink l",
+        "guide g x 200",
+        "align c g low a",
+        "align c g mid a b",
+        "align c g high a b c",
+        "spread s y 80 a",
+        "rank r x 0 a b c",
+        "apart s x a b 20 least",
+        "apart s y a b -20 exact",
+        "group g 15 a b",
+        "page p 0 0 600 800 20 soft",
+        "page p 0 0 600 800 20 rigid",
+        "drop c",
+        "undo",
+        "where a",
+    ] {
+        assert_eq!(rt;
+            kind_of(rt.alloc(), command)?,
+            Some(FaultKind::NotYet),
+            "{command}"
+        );
+    }
+    Ok(())
+}
+
+#[test]
+fn fields_of_commands_that_are_not_built(rt: HostRuntime) -> Result<(), Fail> {
+    for command in [
+        "oval a 0 0 10",
+        "diamond a 0 0 10 10 10",
+        "size a 10",
+        "move a 0 -0",
+        "shift g 01",
+        "hold",
+        "free 2a",
+        "remove a b",
+        "link l a",
+        "unlink ",
+        "guide g z 200",
+        "guide g 200 x",
+        "align c g middle a",
+        "align c g mid",
+        "align c g mid a  b",
+        "spread s y 80",
+        "rank r x 0 a 1",
+        "apart s x a b 20",
+        "apart s x a b 20 least b",
+        "group g a b",
+        "page p 0 0 600 800 20 hard",
+        "drop -",
+        "undo a",
+        "undo ",
+        "where",
+    ] {
+        assert_eq!(rt;
+            kind_of(rt.alloc(), command)?,
+            Some(FaultKind::Fields),
+            "{command}"
+        );
     }
     Ok(())
 }
@@ -118,15 +232,13 @@ fn long_script(alloc: Global, layouts: usize, letters: usize) -> Result<Vec<u8>,
 
 #[test]
 fn long_scripts_are_refused(rt: HostRuntime) -> Result<(), Fail> {
-    let fault = Err(ReadFault::Fault(ScriptFault {
-        line: 0,
-        kind: FaultKind::NotYet,
-    }));
     for (layouts, letters, read) in [
         (1999, 0, Ok(1999)),
         (2000, 0, Ok(2000)),
-        (2001, 0, fault),
-        (0, 2043, fault),
+        (2001, 0, Err(fault(2002, FaultKind::TooMany))),
+        (0, 2042, Err(fault(2, FaultKind::Fields))),
+        (0, 2043, Err(fault(2, FaultKind::Long))),
+        (2000, 2043, Err(fault(2002, FaultKind::Long))),
     ] {
         let text = long_script(rt.alloc(), layouts, letters)?;
         assert_eq!(rt; count(rt.alloc(), &text), read, "{layouts} {letters}");

@@ -1,8 +1,10 @@
-use Rattle.std.proofs.Common.{◌≡◌, ◌⊎◌, ◌≤◌, inl, inr, ℕ, List, Option, None, Some, Ok, Err, ap, length}
+use Rattle.std.proofs.Common.{◌≡◌, ◌⊎◌, ◌≤◌, inl, inr, ℕ, List, Option, None, Some, Ok, Err, ap, length, refl}
 use Rattle.std.specs.Prelude.{IfSome, Result}
 use Rattle.script_text.specs.declared.scripts.Line.{Line}
 use Rattle.script_text.specs.Scripts.{Spells}
 use Rattle.editor_run.specs.declared.outcome.Outcome.{Outcome}
+use Rattle.editor_run.specs.declared.outcome.Fault.TheVariants as fault
+use Rattle.editor_run.proofs.Failing.{failed_with, fails_for_memory}
 use Rattle.editor_run.proofs.running.run_alone.Goals as goal
 
 -- what holds unless a call failed so, holds where it didn't fail
@@ -32,3 +34,8 @@ returns-in-Err-Memory-clause-within g c = inr (where_ok _ _ _ _ c.in-Ok.is c.inp
 
 pub returns-in-Err-Memory-clause-complete : goal.returns-in-Err-Memory-clause-complete
 returns-in-Err-Memory-clause-complete g c = λ _ _. lacks_memory _ _ (ap (λ (o : Outcome). o.status) c.failed-in-Err-Memory.ensures)
+pub returns-in-Err-clause-no_script : goal.returns-in-Err-clause-no_script
+returns-in-Err-clause-no_script g c = λ f e. let x = failed_with c.failed.result c.in-Err.fault (fault.Script f) c.failed.ensures e in c.in-Err.ensures.none_spelled f (rw x refl)
+
+pub returns-in-Err-clause-complete : goal.returns-in-Err-clause-complete
+returns-in-Err-clause-complete g c = λ no_s no_k. fails_for_memory c.failed.result c.input.result c.in-Err.fault (g.S.Source.left c.args.source.now) c.failed.ensures c.in-Err.is (c.input.ensures.complete no_s)

@@ -1,10 +1,11 @@
 use Rattle.std.proofs.Common.{◌∙◌}
 use Rattle.std.proofs.lemmas.Result.{err_from_is_err_and}
-use Rattle.script_text.proofs.Texts.{script_sound, one_script, fault_sound, only_memory}
+use Rattle.script_text.proofs.Texts.{script_sound, one_script}
+use Rattle.script_text.proofs.WholeFaults.{cause_sound, only_memory}
 use Rattle.script_text.proofs.reading.read.Goals as goal
 
 pub of-requires : goal.of-requires
-of-requires c = (script_sound c.args.bytes.now c.in_ok-all_lines.field-0.items c.in_ok-all_lines.ensures.0 c.in_ok-all_lines.ensures.1).script
+of-requires c = c.in_ok-all_lines.ensures.0
 
 pub returns-clause-spelled : goal.returns-clause-spelled
 returns-clause-spelled c = rw c.of.ensures (script_sound c.args.bytes.now c.in_ok-all_lines.field-0.items c.in_ok-all_lines.ensures.0 c.in_ok-all_lines.ensures.1)
@@ -21,4 +22,4 @@ returns-in_err-all_lines-clause-found c lines h =
 pub returns-in_err-all_lines-clause-fault : goal.returns-in_err-all_lines-clause-fault
 returns-in_err-all_lines-clause-fault c =
     let p = err_from_is_err_and c.from_residual.result c.from_residual.ensures.1 in
-    rw (p.1, p.2) (fault_sound c.args.bytes.now c.in_err-all_lines.field-0.0 c.in_err-all_lines.ensures)
+    rw (p.1, p.2) (cause_sound c.args.bytes.now c.in_err-all_lines.field-0.0 c.in_err-all_lines.ensures)
