@@ -9,6 +9,8 @@ use units::{Memory, Name};
 #[derive(Clone, Copy, Debug, PartialEq, Eq)]
 pub enum Form {
     Box,
+    Oval,
+    Diamond,
 }
 
 /// A shape: an outlined node of the diagram.

@@ -110,7 +110,7 @@ pub session_again : (line : List ℕ) → BeginsSession line → begins_session 
 session_again line b =
     let digit = decimal_digit b.session (omega (arith, b.is_session)) in
     let low : leb 49 (48 + b.session) ≡ true = le-leb _ _ (omega (arith, b.is_session.0)) in
-    let high : leb (48 + b.session) 49 ≡ true = le-leb _ _ (omega (arith, b.is_session.1)) in
+    let high : leb (48 + b.session) 56 ≡ true = le-leb _ _ (omega (arith, b.is_session.1)) in
     let text : line ≡ (48 + b.session) ∷ 32 ∷ b.rest = b.is ∙ ap (λ (d : List ℕ). d ++ 32 ∷ b.rest) digit in
     rw (text, low, high) refl
 
@@ -119,7 +119,7 @@ session_of line e =
     let s = and_parts _ _ e in
     let s2 = and_parts _ _ s.0 in
     let low : 49 ≤ get_or line 0 0 = leb-true _ _ s2.0 in
-    let high : get_or line 0 0 ≤ 49 = leb-true _ _ s2.1 in
+    let high : get_or line 0 0 ≤ 56 = leb-true _ _ s2.1 in
     let digit = decimal_digit (get_or line 0 0 - 48) (omega arith) in
     let same : 48 + (get_or line 0 0 - 48) ≡ get_or line 0 0 = omega arith in
     record {

@@ -207,6 +207,13 @@ fields_again k fs fit h =
 
 edit_slots : (e : Edit) → map slot_of (edit_fields e) ≡ slots (edit_keyword e)
 edit_slots (edit.Put n form.Box x y w h) = refl
+edit_slots (edit.Put n form.Oval x y w h) = refl
+edit_slots (edit.Put n form.Diamond x y w h) = refl
+edit_slots (edit.Size n w h) = refl
+edit_slots (edit.Move n x y) = refl
+edit_slots (edit.Hold n) = refl
+edit_slots (edit.Free n) = refl
+edit_slots (edit.Remove n) = refl
 
 pub command_slots : (c : Command) → map slot_of (command_fields c) ≡ slots (command_keyword c)
 command_slots (command.Edit e) = edit_slots e
@@ -214,6 +221,13 @@ command_slots command.Layout = refl
 
 edit_built : (e : Edit) → is_built (edit_keyword e) ≡ true
 edit_built (edit.Put n form.Box x y w h) = refl
+edit_built (edit.Put n form.Oval x y w h) = refl
+edit_built (edit.Put n form.Diamond x y w h) = refl
+edit_built (edit.Size n w h) = refl
+edit_built (edit.Move n x y) = refl
+edit_built (edit.Hold n) = refl
+edit_built (edit.Free n) = refl
+edit_built (edit.Remove n) = refl
 
 pub built_again : (c : Command) → is_built (command_keyword c) ≡ true
 built_again (command.Edit e) = edit_built e

@@ -39,11 +39,25 @@ number_in _ = pos 0
 
 from : Keyword → List Field → Command
 from keyword.Box fs = command.Edit (edit.Put (name_in (nth 0 fs)) form.Box (number_in (nth 1 fs)) (number_in (nth 2 fs)) (number_in (nth 3 fs)) (number_in (nth 4 fs)))
+from keyword.Oval fs = command.Edit (edit.Put (name_in (nth 0 fs)) form.Oval (number_in (nth 1 fs)) (number_in (nth 2 fs)) (number_in (nth 3 fs)) (number_in (nth 4 fs)))
+from keyword.Diamond fs = command.Edit (edit.Put (name_in (nth 0 fs)) form.Diamond (number_in (nth 1 fs)) (number_in (nth 2 fs)) (number_in (nth 3 fs)) (number_in (nth 4 fs)))
+from keyword.Size fs = command.Edit (edit.Size (name_in (nth 0 fs)) (number_in (nth 1 fs)) (number_in (nth 2 fs)))
+from keyword.Move fs = command.Edit (edit.Move (name_in (nth 0 fs)) (number_in (nth 1 fs)) (number_in (nth 2 fs)))
+from keyword.Hold fs = command.Edit (edit.Hold (name_in (nth 0 fs)))
+from keyword.Free fs = command.Edit (edit.Free (name_in (nth 0 fs)))
+from keyword.Remove fs = command.Edit (edit.Remove (name_in (nth 0 fs)))
 from _ fs = command.Layout
 
 edit_back : (e : Edit) → from (edit_keyword e) (edit_fields e) ≡ command.Edit e
 unfolding from nth name_in number_in
 edit_back (edit.Put n form.Box x y w h) = refl
+edit_back (edit.Put n form.Oval x y w h) = refl
+edit_back (edit.Put n form.Diamond x y w h) = refl
+edit_back (edit.Size n w h) = refl
+edit_back (edit.Move n x y) = refl
+edit_back (edit.Hold n) = refl
+edit_back (edit.Free n) = refl
+edit_back (edit.Remove n) = refl
 
 back : (c : Command) → from (command_keyword c) (command_fields c) ≡ c
 unfolding from nth name_in number_in

@@ -37,14 +37,26 @@ slot_of (MembersField ms) = slot.Members
 -- the command that puts a shape of the form
 abbrev pub form_keyword : Form → Keyword
 form_keyword form.Box = keyword.Box
+form_keyword form.Oval = keyword.Oval
+form_keyword form.Diamond = keyword.Diamond
 
--- the command of an edit: that of the form of its shape
+-- the command of an edit; that of a new shape is the one of its form
 abbrev pub edit_keyword : Edit → Keyword
 edit_keyword (edit.Put n f x y w h) = form_keyword f
+edit_keyword (edit.Size n w h) = keyword.Size
+edit_keyword (edit.Move n x y) = keyword.Move
+edit_keyword (edit.Hold n) = keyword.Hold
+edit_keyword (edit.Free n) = keyword.Free
+edit_keyword (edit.Remove n) = keyword.Remove
 
--- the fields of an edit: the name, the place on X and on Y, the width and the height
+-- the fields of an edit: the name, then its numbers, those on X before those on Y, places before sizes
 abbrev pub edit_fields : Edit → List Field
 edit_fields (edit.Put n f x y w h) = NameField n ∷ NumberField x ∷ NumberField y ∷ NumberField w ∷ NumberField h ∷ []
+edit_fields (edit.Size n w h) = NameField n ∷ NumberField w ∷ NumberField h ∷ []
+edit_fields (edit.Move n x y) = NameField n ∷ NumberField x ∷ NumberField y ∷ []
+edit_fields (edit.Hold n) = NameField n ∷ []
+edit_fields (edit.Free n) = NameField n ∷ []
+edit_fields (edit.Remove n) = NameField n ∷ []
 
 -- the keyword of a command
 abbrev pub command_keyword : Command → Keyword

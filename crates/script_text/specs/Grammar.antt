@@ -25,19 +25,27 @@ is_choice c w = list_any (bytes_eq w) (choice_words c)
 abbrev pub put_slots : List Slot
 put_slots = slot.Name ∷ slot.Number ∷ slot.Number ∷ slot.Number ∷ slot.Number ∷ []
 
+-- a shape's name, then two numbers
+abbrev pub pair_slots : List Slot
+pair_slots = slot.Name ∷ slot.Number ∷ slot.Number ∷ []
+
+-- a name
+abbrev pub name_slots : List Slot
+name_slots = slot.Name ∷ []
+
 -- what stands behind the word of each command
 abbrev pub slots : Keyword → List Slot
 slots keyword.Box = put_slots
 slots keyword.Oval = put_slots
 slots keyword.Diamond = put_slots
-slots keyword.Size = slot.Name ∷ slot.Number ∷ slot.Number ∷ []
-slots keyword.Move = slot.Name ∷ slot.Number ∷ slot.Number ∷ []
+slots keyword.Size = pair_slots
+slots keyword.Move = pair_slots
 slots keyword.Shift = slot.Name ∷ slot.Number ∷ []
-slots keyword.Hold = slot.Name ∷ []
-slots keyword.Free = slot.Name ∷ []
-slots keyword.Remove = slot.Name ∷ []
+slots keyword.Hold = name_slots
+slots keyword.Free = name_slots
+slots keyword.Remove = name_slots
 slots keyword.Link = slot.Name ∷ slot.Name ∷ slot.Name ∷ []
-slots keyword.Unlink = slot.Name ∷ []
+slots keyword.Unlink = name_slots
 slots keyword.Guide = slot.Name ∷ slot.Choice choice.Axis ∷ slot.Number ∷ []
 slots keyword.Align = slot.Name ∷ slot.Name ∷ slot.Choice choice.AlignLine ∷ slot.Members ∷ []
 slots keyword.Spread = slot.Name ∷ slot.Choice choice.Axis ∷ slot.Number ∷ slot.Members ∷ []
@@ -45,7 +53,7 @@ slots keyword.Rank = slot.Name ∷ slot.Choice choice.Axis ∷ slot.Number ∷ s
 slots keyword.Apart = slot.Name ∷ slot.Choice choice.Axis ∷ slot.Name ∷ slot.Name ∷ slot.Number ∷ slot.Choice choice.Exactness ∷ []
 slots keyword.Group = slot.Name ∷ slot.Number ∷ slot.Members ∷ []
 slots keyword.Page = slot.Name ∷ slot.Number ∷ slot.Number ∷ slot.Number ∷ slot.Number ∷ slot.Number ∷ slot.Choice choice.Stiffness ∷ []
-slots keyword.Drop = slot.Name ∷ []
+slots keyword.Drop = name_slots
 slots keyword.Undo = []
 slots keyword.Layout = []
-slots keyword.Where = slot.Name ∷ []
+slots keyword.Where = name_slots

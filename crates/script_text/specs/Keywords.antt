@@ -38,5 +38,12 @@ all_keywords =
 -- whether the program has the command yet
 abbrev pub is_built : Keyword → Bool
 is_built keyword.Box = true
+is_built keyword.Oval = true
+is_built keyword.Diamond = true
+is_built keyword.Size = true
+is_built keyword.Move = true
+is_built keyword.Hold = true
+is_built keyword.Free = true
+is_built keyword.Remove = true
 is_built keyword.Layout = true
 is_built _ = false

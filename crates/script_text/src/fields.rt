@@ -1,9 +1,10 @@
 //! Reading the fields of a command, and commands.
-ghost use Rattle.std.specs.Prelude.{◌≡◌, [], false, Some, None, MatchOption, MatchResult, codes, Ok, Err};
+ghost use Rattle.std.specs.Prelude.{◌≡◌, [], ◌∷◌, false, Some, None, MatchOption, MatchResult, codes, Ok, Err};
 ghost use Rattle.script_text.specs.Commands.{NameField, NumberField, edit_keyword, edit_fields, form_keyword};
 ghost use Rattle.script_text.specs.Keywords.{is_built};
-ghost use Rattle.script_text.specs.Grammar.{put_slots};
+ghost use Rattle.script_text.specs.Grammar.{put_slots, pair_slots, name_slots};
 ghost use Rattle.script_text.specs.Reading.{field_at, ends_at, fields_at, parts, command_by, command_at};
+ghost use Rattle.script_text.specs.declared.keywords.Keyword.TheVariants as keyword;
 ghost use Rattle.script_text.specs.declared.slots.Slot.TheVariants as slot;
 
 use crate::faults::FaultKind;
@@ -53,6 +54,42 @@ fn put(form: Form, words: &mut Pieces<'_>) -> Option<Edit>
     Some(edit)
 }
 
+fn size(words: &mut Pieces<'_>) -> Option<Edit>
+    ensures { MatchOption result (fields_at pair_slots words.old ≡ None)
+        (λ e. (edit_keyword e ≡ keyword.Size) × (fields_at pair_slots words.old ≡ Some (edit_fields e))) }
+{
+    let edit = Edit::Size {
+        name: name_field(words)?,
+        w: number_field(words)?,
+        h: number_field(words)?,
+    };
+    end(words)?;
+    Some(edit)
+}
+
+fn corner(words: &mut Pieces<'_>) -> Option<Edit>
+    ensures { MatchOption result (fields_at pair_slots words.old ≡ None)
+        (λ e. (edit_keyword e ≡ keyword.Move) × (fields_at pair_slots words.old ≡ Some (edit_fields e))) }
+{
+    let edit = Edit::Move {
+        name: name_field(words)?,
+        x: number_field(words)?,
+        y: number_field(words)?,
+    };
+    end(words)?;
+    Some(edit)
+}
+
+/// A name, and no word behind it.
+fn one_name(words: &mut Pieces<'_>) -> Option<Name>
+    ensures { MatchOption result (fields_at name_slots words.old ≡ None)
+        (λ n. fields_at name_slots words.old ≡ Some (NameField n ∷ [])) }
+{
+    let name = name_field(words)?;
+    end(words)?;
+    Some(name)
+}
+
 /// The fault of a command that isn't built: that, or its fields.
 fn unbuilt(keyword: Keyword, words: &mut Pieces<'_>) -> FaultKind
     requires { is_built keyword ≡ false }
@@ -75,6 +112,34 @@ pub fn command(words: &mut Pieces<'_>) -> Result<Command, FaultKind>
         Keyword::Box => {
             let edit = put(Form::Box, words).ok_or(FaultKind::Fields)?;
             Ok(Command::Edit(edit))
+        }
+        Keyword::Oval => {
+            let edit = put(Form::Oval, words).ok_or(FaultKind::Fields)?;
+            Ok(Command::Edit(edit))
+        }
+        Keyword::Diamond => {
+            let edit = put(Form::Diamond, words).ok_or(FaultKind::Fields)?;
+            Ok(Command::Edit(edit))
+        }
+        Keyword::Size => {
+            let edit = size(words).ok_or(FaultKind::Fields)?;
+            Ok(Command::Edit(edit))
+        }
+        Keyword::Move => {
+            let edit = corner(words).ok_or(FaultKind::Fields)?;
+            Ok(Command::Edit(edit))
+        }
+        Keyword::Hold => {
+            let name = one_name(words).ok_or(FaultKind::Fields)?;
+            Ok(Command::Edit(Edit::Hold { name }))
+        }
+        Keyword::Free => {
+            let name = one_name(words).ok_or(FaultKind::Fields)?;
+            Ok(Command::Edit(Edit::Free { name }))
+        }
+        Keyword::Remove => {
+            let name = one_name(words).ok_or(FaultKind::Fields)?;
+            Ok(Command::Edit(Edit::Remove { name }))
         }
         Keyword::Layout => {
             end(words).ok_or(FaultKind::Fields)?;

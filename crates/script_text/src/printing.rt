@@ -1,7 +1,8 @@
 //! The texts of commands.
-ghost use Rattle.std.specs.Prelude.{◌≡◌, ◌∷◌, ◌++◌, OnOk, IfOk};
+ghost use Rattle.std.specs.Prelude.{◌≡◌, ◌∷◌, ◌++◌, [], OnOk, IfOk};
 ghost use Rattle.std.specs.Fmt.{signed_decimal};
 ghost use Rattle.script_text.specs.Words.{spaced};
+ghost use Rattle.script_text.specs.Keywords.{keyword_word};
 ghost use Rattle.script_text.specs.Commands.{form_keyword, edit_words, command_words};
 
 use crate::keywords::{Keyword, add_keyword};
@@ -9,7 +10,7 @@ use crate::scripts::Command;
 use edit_rules::Edit;
 use scene_model::Form;
 use std::alloc::{AllocError, Global};
-use units::Memory;
+use units::{Memory, Name};
 
 /// Adds a space and the word.
 fn add_word(text: &mut Vec<u8>, word: &[u8]) -> Result<(), AllocError>
@@ -33,7 +34,61 @@ fn form_keyword(form: Form) -> Keyword
 {
     match form {
         Form::Box => Keyword::Box,
+        Form::Oval => Keyword::Oval,
+        Form::Diamond => Keyword::Diamond,
     }
+}
+
+/// The text of a command with a name.
+fn name_text(alloc: Global, keyword: Keyword, name: &Name) -> Result<Vec<u8>, Memory>
+    ensures { IfOk result (λ text. text.items ≡ spaced (keyword_word keyword ∷ name.now ∷ [])) }
+{
+    let mut text = Vec::new(alloc);
+    add_keyword(&mut text, keyword)?;
+    add_word(&mut text, name.bytes())?;
+    Ok(text)
+}
+
+/// The text of a command with a name and two numbers.
+fn pair_text(
+    alloc: Global,
+    keyword: Keyword,
+    name: &Name,
+    first: i32,
+    second: i32,
+) -> Result<Vec<u8>, Memory>
+    ensures { IfOk result (λ text. text.items
+        ≡ spaced (keyword_word keyword ∷ name.now ∷ signed_decimal first ∷ signed_decimal second ∷ [])) }
+{
+    let mut text = Vec::new(alloc);
+    add_keyword(&mut text, keyword)?;
+    add_word(&mut text, name.bytes())?;
+    add_number(alloc, &mut text, first)?;
+    add_number(alloc, &mut text, second)?;
+    Ok(text)
+}
+
+/// The text of a command with a name and four numbers.
+fn put_text(
+    alloc: Global,
+    keyword: Keyword,
+    name: &Name,
+    x: i32,
+    y: i32,
+    w: i32,
+    h: i32,
+) -> Result<Vec<u8>, Memory>
+    ensures { IfOk result (λ text. text.items ≡ spaced (keyword_word keyword ∷ name.now ∷ signed_decimal x
+        ∷ signed_decimal y ∷ signed_decimal w ∷ signed_decimal h ∷ [])) }
+{
+    let mut text = Vec::new(alloc);
+    add_keyword(&mut text, keyword)?;
+    add_word(&mut text, name.bytes())?;
+    add_number(alloc, &mut text, x)?;
+    add_number(alloc, &mut text, y)?;
+    add_number(alloc, &mut text, w)?;
+    add_number(alloc, &mut text, h)?;
+    Ok(text)
 }
 
 /// The text of an edit: its word and its fields, divided by one space, as in a script, without the session and
@@ -41,7 +96,6 @@ fn form_keyword(form: Form) -> Keyword
 pub fn edit_text(alloc: Global, edit: &Edit) -> Result<Vec<u8>, Memory>
     ensures { IfOk result (λ text. text.items ≡ spaced (edit_words edit.now)) }
 {
-    let mut text = Vec::new(alloc);
     match edit {
         Edit::Put {
             name,
@@ -50,15 +104,12 @@ pub fn edit_text(alloc: Global, edit: &Edit) -> Result<Vec<u8>, Memory>
             y,
             w,
             h,
-        } => {
-            add_keyword(&mut text, form_keyword(*form))?;
-            add_word(&mut text, name.bytes())?;
-            add_number(alloc, &mut text, *x)?;
-            add_number(alloc, &mut text, *y)?;
-            add_number(alloc, &mut text, *w)?;
-            add_number(alloc, &mut text, *h)?;
-            Ok(text)
-        }
+        } => put_text(alloc, form_keyword(*form), name, *x, *y, *w, *h),
+        Edit::Size { name, w, h } => pair_text(alloc, Keyword::Size, name, *w, *h),
+        Edit::Move { name, x, y } => pair_text(alloc, Keyword::Move, name, *x, *y),
+        Edit::Hold { name } => name_text(alloc, Keyword::Hold, name),
+        Edit::Free { name } => name_text(alloc, Keyword::Free, name),
+        Edit::Remove { name } => name_text(alloc, Keyword::Remove, name),
     }
 }
 

@@ -78,7 +78,6 @@ fn faults_have_lines_and_kinds(rt: HostRuntime) -> Result<(), Fail> {
         ("dunnart 1\nend\nx", 3, FaultKind::After),
         ("dunnart 1\n\n1 layout\nend\n", 2, FaultKind::Session),
         ("dunnart 1\n0 layout\nend\n", 2, FaultKind::Session),
-        ("dunnart 1\n2 layout\nend\n", 2, FaultKind::Session),
         ("dunnart 1\n9 layout\nend\n", 2, FaultKind::Session),
         ("dunnart 1\n11 layout\nend\n", 2, FaultKind::Session),
         ("dunnart 1\n1\nend\n", 2, FaultKind::Session),

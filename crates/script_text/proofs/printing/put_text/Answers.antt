@@ -1,5 +1,5 @@
 use Rattle.std.proofs.Common.{rules, append_assoc}
-use Rattle.script_text.proofs.printing.edit_text.Goals as goal
+use Rattle.script_text.proofs.printing.put_text.Goals as goal
 
 pub returns : goal.returns
 returns c = search (rules, append_assoc)
