@@ -1,5 +1,5 @@
 -- What the book keeps, through one entry more.
-use Rattle.std.proofs.Common.{◌≡◌, ◌+◌, ◌<◌, ℕ, List, [], ◌∷◌, ◌++◌, Bool, true, false, cond, Option, Some, None, length, map, refl, ap, sym, ◌∙◌, subst, arith, zero, suc, ℤ}
+use Rattle.std.proofs.Common.{◌≡◌, ◌+◌, ◌<◌, ◌≤◌, ℕ, List, [], ◌∷◌, ◌++◌, Bool, true, false, cond, Option, Some, None, length, map, refl, ap, sym, ◌∙◌, subst, arith, zero, suc, ℤ}
 use Rattle.std.proofs.lemmas.Bool.{false≢true}
 use Rattle.std.specs.Prelude.{◌↔◌, IsTrue, MatchOption, fold}
 use Rattle.std.proofs.lemmas.List.{length-append, length-map}
@@ -17,6 +17,7 @@ use Rattle.frame_store.specs.declared.frames.Frame.{Frame}
 use Rattle.frame_store.specs.Frames.{drawn}
 use Rattle.frame_store.specs.Carry.{carried, kept_place}
 use Rattle.doc_book.specs.declared.entries.Entry.{Entry}
+use Rattle.doc_book.specs.declared.entries.Act.{Act}
 use Rattle.doc_book.specs.declared.entries.Act.TheVariants as act
 use Rattle.doc_book.specs.Frames.{IsFrameOf}
 use Rattle.doc_book.specs.Growing.{entry_of}
@@ -36,7 +37,7 @@ length-push h e = length-append h (e ∷ [])
 
 -- there are at most as many standing edits as entries
 standing-short : (h : List Entry) → length (standing h) ≤ length h
-standing-short h = along h []
+standing-short h = let le = along h [] in omega (arith, le)
   where
     one : (edits : List Edit) (a : Act) → length (edits_after edits a) ≤ length edits + 1
     one edits (act.Edit e) = omega (arith, length-append edits (e ∷ []))

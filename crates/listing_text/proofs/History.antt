@@ -1,5 +1,5 @@
 -- The entries of a history, from left to right.
-use Rattle.std.proofs.Common.{◌≡◌, ℕ, ◌+◌, ◌<◌, ◌≤◌, List, [], ◌∷◌, ◌++◌, length, take, drop, get_or, Option, Some, None, refl, sym, ap, subst, ◌∙◌}
+use Rattle.std.proofs.Common.{◌≡◌, ℕ, ◌+◌, ◌<◌, ◌≤◌, List, [], ◌∷◌, ◌++◌, length, take, drop, get_or, Option, Some, None, refl, sym, ap, subst, ◌∙◌, zero, suc, arith, ◌^◌}
 use Rattle.std.proofs.lemmas.List.{take_more, drop_more, drop_all}
 use Rattle.std.proofs.lemmas.Grind.{fold-append}
 use Rattle.edit_rules.specs.declared.edits.Edit.{Edit}
@@ -7,6 +7,7 @@ use Rattle.edit_rules.specs.declared.refusals.Refusal.{Refusal}
 use Rattle.edit_rules.specs.Refusals.{first_of, refusal_of}
 use Rattle.edit_rules.specs.Effects.{edited, scene_of}
 use Rattle.scene_model.specs.Diagram.{Diagram, empty_diagram}
+use Rattle.doc_book.proofs.Keeping.{few_moves_at}
 use Rattle.doc_book.specs.declared.entries.Entry.{Entry}
 use Rattle.doc_book.specs.declared.entries.Act.{Act}
 use Rattle.doc_book.specs.declared.entries.Act.TheVariants as act
@@ -35,10 +36,16 @@ third_none None None (Some r) e = absurd cc
 third_none None (Some r) c e = absurd cc
 third_none (Some r) b c e = absurd cc
 
-accepts : (h : List Entry) (budget : ℕ) (e : Entry) (a : Act) → ActMayFollow h budget e a → IsAccepting (scene_at h) a
-accepts h budget e (act.Edit edit) may = third_none (ended_refusal h) (entries_refusal h) (refusal_of (scene_at h) edit) may
-accepts h budget e (act.Frame f) may = tt
-accepts h budget e act.End may = tt
+accepts : (h : List Entry) (budget : ℕ) (e : Entry) (a : Act) → length h ≤ 4294967294 → ActMayFollow h budget e a → IsAccepting (scene_at h) a
+accepts h budget e (act.Edit edit) short may = (third_none (ended_refusal h) (entries_refusal h) (refusal_of (scene_at h) edit) may, few_moves_at h 4294967294 short)
+accepts h budget e (act.Frame f) short may = tt
+accepts h budget e act.End short may = tt
+
+length-take : (h : List Entry) (k : ℕ) → length (take k h) ≤ k
+length-take [] zero = omega arith
+length-take [] (suc k) = omega arith
+length-take (e ∷ es) zero = omega arith
+length-take (e ∷ es) (suc k) = let rest = length-take es k in let one : length (take (suc k) (e ∷ es)) ≡ suc (length (take k es)) = refl in omega arith
 
 -- ---- a step
 
@@ -63,10 +70,10 @@ module _ (h : List Entry) (k : ℕ) (e : Entry) (lt : k < length h) (is : e ≡ 
   pub scene_step : scene_at (take (k + 1) h) ≡ scene_after (scene_at (take k h)) e.act
   scene_step = ap scene_at (sym front) ∙ scene_at-push (take k h) e
 
-  pub legal_here : (budget : ℕ) → AllMayFollow (take k h) budget (drop k h) → IsAccepting (scene_at (take k h)) e.act
-  legal_here budget legal =
+  pub legal_here : (budget : ℕ) → length h < 2 ^ 32 → AllMayFollow (take k h) budget (drop k h) → IsAccepting (scene_at (take k h)) e.act
+  legal_here budget short legal =
       let all : AllMayFollow (take k h) budget (e ∷ drop (k + 1) h) = subst (λ es. AllMayFollow (take k h) budget es) rest legal in
-      accepts (take k h) budget e e.act all.0
+      accepts (take k h) budget e e.act (omega (arith, length-take h k, lt, short)) all.0
 
   pub legal_step : (budget : ℕ) → AllMayFollow (take k h) budget (drop k h) → AllMayFollow (take (k + 1) h) budget (drop (k + 1) h)
   legal_step budget legal =

@@ -1,5 +1,5 @@
 //! The lines of the entries of a history.
-ghost use Rattle.std.specs.Prelude.{◌≡◌, ◌∷◌, ◌++◌, [], ℕ, decimal, IfOk, OnOk};
+ghost use Rattle.std.specs.Prelude.{◌≡◌, ◌<◌, ◌^◌, ◌∷◌, ◌++◌, [], ℕ, decimal, length, IfOk, OnOk};
 ghost use Rattle.doc_book.specs.Legal.{IsLegal};
 ghost use Rattle.doc_book.specs.Listing.{act_words, text_line, text_lines, lines_of, entry_lines};
 ghost use Rattle.listing_text.specs.Words.{behind};
@@ -100,7 +100,8 @@ fn put_entry<K: Sink>(
 
 /// Puts the lines of the entries of a legal history.
 pub fn put_entries<K: Sink>(alloc: Global, history: &[Entry], sink: &mut K) -> Result<(), SinkStop>
-    requires { (budget : ℕ) × IsLegal history.now budget }
+    requires legal { (budget : ℕ) × IsLegal history.now budget }
+    requires short { length history.now < 2 ^ 32 }
     ensures { Puts (K.put sink.old) (K.put sink.new) (K.faults sink.old) (K.faults sink.new) (text_lines (entry_lines [] 0 history.now)) result }
 {
     let mut scene = Scene::empty(alloc);

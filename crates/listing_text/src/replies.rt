@@ -32,6 +32,10 @@ fn add_refusal(text: &mut Vec<u8>, refusal: &Refusal) -> Result<(), AllocError>
             add_word(text, b"range")?;
             add_number(text, i64::from(*value))
         }
+        Refusal::Unknown { name } => {
+            add_word(text, b"unknown")?;
+            add_word(text, name.bytes())
+        }
         Refusal::Taken { name } => {
             add_word(text, b"taken")?;
             add_word(text, name.bytes())

@@ -1,8 +1,8 @@
-use Rattle.std.proofs.Common.{◌∙◌, ap, sym}
+use Rattle.std.proofs.Common.{◌∙◌, ap, sym, subst}
 use Rattle.std.proofs.lemmas.Result.{err_from_is_err_and}
 use Rattle.scene_model.specs.Diagram.{Diagram}
-use Rattle.listing_text.specs.Steps.{scene_after}
-use Rattle.listing_text.proofs.History.{entry_put, scene_step, legal_step}
+use Rattle.listing_text.specs.Steps.{scene_after, IsAccepting}
+use Rattle.listing_text.proofs.History.{entry_put, scene_step, legal_here, legal_step}
 use Rattle.listing_text.proofs.Puts.{one_more, stopped}
 use Rattle.listing_text.proofs.entries.put_entries.Goals as goal
 
@@ -12,6 +12,12 @@ returns-in_err-put_entry g c =
     rw (p.1, p.2) (stopped _ _ _ _ _ _ _ _ _ _ c.in_err-put_entry.field-0.0 c.loop-place.invariant.so_far
     (entry_put c.args.history.now c.loop-place.place c.index-history-place.result c.loop-place-test.true c.index-history-place.is c.loop-place.scene c.loop-place.invariant.scene)
     c.in_err-put_entry.ensures.puts)
+
+pub put_entry-requires : goal.put_entry-requires
+put_entry-requires g c =
+    let e = c.index-history-place.result in
+    subst (λ (s : Diagram). IsAccepting s e.act) (sym c.loop-place.invariant.scene)
+    (legal_here c.args.history.now c.loop-place.place e c.loop-place-test.true c.index-history-place.is c.loop-place.invariant.legal.0 c.requires.short c.loop-place.invariant.legal.1)
 
 pub loop-place-preserved : goal.loop-place-preserved
 loop-place-preserved g c =
