@@ -44,6 +44,12 @@ fn scripts_are_read(rt: HostRuntime) -> Result<(), Fail> {
     for (text, lines) in [
         ("dunnart 1\nend\n", 0),
         ("dunnart 1\n1 layout\nend\n", 1),
+        (
+            "dunnart 1\n1 oval a 0 0 10 10\n8 diamond b -5 0 10 10\nend\n",
+            2,
+        ),
+        ("dunnart 1\n2 size a 10 999999999\n3 move a 0 -1\nend\n", 2),
+        ("dunnart 1\n4 hold a\n5 free a\n6 remove a\nend\n", 3),
         ("dunnart 1\n1 box b_2 -999999999 0 999999999 1\nend\n", 1),
         (
             "dunnart 1\n1 box a23456789012345678901234 1 1 1 1\nend\n",
@@ -140,14 +146,7 @@ fn kind_of(alloc: Global, command: &str) -> Result<Option<FaultKind>, Fail> {
 #[test]
 fn commands_that_are_not_built(rt: HostRuntime) -> Result<(), Fail> {
     for command in [
-        "oval a 0 0 10 10",
-        "diamond a -5 0 10 10",
-        "size a 10 999999999",
-        "move a 0 -1",
         "shift g -5",
-        "hold a",
-        "free a",
-        "remove a",
         "link l a b",
         "unlink l",
         "guide g x 200",
@@ -262,6 +261,17 @@ fn commands_have_texts(rt: HostRuntime) -> Result<(), Fail> {
     });
     let text = command_text(rt.alloc(), &command)?;
     assert_eq!(rt; text.as_slice(), b"box b_2 -1000000 0 10000 1".as_slice());
+    let name = Name::of(b"b_2").ok_or("a name")?;
+    let text = edit_text(rt.alloc(), &Edit::Size { name, w: 7, h: -8 })?;
+    assert_eq!(rt; text.as_slice(), b"size b_2 7 -8".as_slice());
+    let text = edit_text(rt.alloc(), &Edit::Move { name, x: -7, y: 8 })?;
+    assert_eq!(rt; text.as_slice(), b"move b_2 -7 8".as_slice());
+    let text = edit_text(rt.alloc(), &Edit::Hold { name })?;
+    assert_eq!(rt; text.as_slice(), b"hold b_2".as_slice());
+    let text = edit_text(rt.alloc(), &Edit::Free { name })?;
+    assert_eq!(rt; text.as_slice(), b"free b_2".as_slice());
+    let text = edit_text(rt.alloc(), &Edit::Remove { name })?;
+    assert_eq!(rt; text.as_slice(), b"remove b_2".as_slice());
     let text = command_text(rt.alloc(), &Command::Layout)?;
     assert_eq!(rt; text.as_slice(), b"layout".as_slice());
     Ok(())

@@ -34,6 +34,7 @@ returns-in-Err-Memory-clause-within g c = inr (where_ok _ _ _ _ c.in-Ok.is c.inp
 
 pub returns-in-Err-Memory-clause-complete : goal.returns-in-Err-Memory-clause-complete
 returns-in-Err-Memory-clause-complete g c = λ _ _. lacks_memory _ _ (ap (λ (o : Outcome). o.status) c.failed-in-Err-Memory.ensures)
+
 pub returns-in-Err-clause-no_script : goal.returns-in-Err-clause-no_script
 returns-in-Err-clause-no_script g c = λ f e. let x = failed_with c.failed.result c.in-Err.fault (fault.Script f) c.failed.ensures e in c.in-Err.ensures.none_spelled f (rw x refl)
 
