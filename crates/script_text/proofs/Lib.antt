@@ -11,3 +11,4 @@ pub mod Reach
 pub mod FaultKinds
 pub mod WholeFaults
 mod Examples
+pub mod Printed

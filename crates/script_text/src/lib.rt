@@ -14,8 +14,8 @@ pub mod scripts;
 pub mod slots;
 
 pub use faults::{FaultKind, ReadFault, ScriptFault};
-pub use printing::{command_text, edit_text};
-pub use reading::{one_script, read};
+pub use printing::{command_text, edit_text, one_spelling, print};
+pub use reading::{one_fault, one_script, read};
 pub use scripts::{Command, Line, Script};
 
 #[cfg(test)]

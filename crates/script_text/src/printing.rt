@@ -1,12 +1,14 @@
-//! The texts of commands.
-ghost use Rattle.std.specs.Prelude.{◌≡◌, ◌∷◌, ◌++◌, [], OnOk, IfOk};
+//! The texts of commands and of scripts.
+ghost use Rattle.std.specs.Prelude.{ℕ, ◌≡◌, ◌≤◌, List, ◌∷◌, ◌++◌, [], OnOk, IfOk};
 ghost use Rattle.std.specs.Fmt.{signed_decimal};
 ghost use Rattle.script_text.specs.Words.{spaced};
 ghost use Rattle.script_text.specs.Keywords.{keyword_word};
 ghost use Rattle.script_text.specs.Commands.{form_keyword, edit_words, command_words};
+ghost use Rattle.script_text.specs.Scripts.{Spells, line_text, with_lf};
+ghost use Rattle.script_text.specs.declared.scripts.Line.{Line as LineValue};
 
 use crate::keywords::{Keyword, add_keyword};
-use crate::scripts::Command;
+use crate::scripts::{Command, Line, Script};
 use edit_rules::Edit;
 use scene_model::Form;
 use std::alloc::{AllocError, Global};
@@ -127,3 +129,33 @@ pub fn command_text(alloc: Global, command: &Command) -> Result<Vec<u8>, Memory>
         }
     }
 }
+
+/// Adds the line with its LF.
+fn add_line(alloc: Global, text: &mut Vec<u8>, line: &Line) -> Result<(), Memory>
+    requires { line.now.session ≤ 8 }
+    ensures { OnOk result (text.new.items ≡ text.old.items ++ with_lf (line_text line.now)) }
+{
+    let command = command_text(alloc, &line.command)?;
+    text.push(b'0' + line.session)?;
+    text.push(b' ')?;
+    text.extend_from_slice(&command)?;
+    text.push(b'\n')?;
+    Ok(())
+}
+
+/// The bytes of a script: they spell it, and no others do.
+pub fn print(alloc: Global, script: &Script) -> Result<Vec<u8>, Memory>
+    ensures { IfOk result (λ bytes. Spells bytes.items script.now) }
+{
+    let mut text = Vec::from_slice(alloc, b"dunnart 1\n")?;
+    for line in script.lines() {
+        add_line(alloc, &mut text, line)?;
+    }
+    text.extend_from_slice(b"end\n")?;
+    Ok(text)
+}
+
+/// The law that a script has one spelling.
+pub fn one_spelling()
+    ensures { (a b : List ℕ) (lines : List LineValue) → Spells a lines → Spells b lines → a ≡ b }
+{}

@@ -1,5 +1,7 @@
 //! What no clause says: that scripts are read with ample memory, and which near misses are refused.
-use crate::{Command, FaultKind, Line, ReadFault, ScriptFault, command_text, edit_text, read};
+use crate::{
+    Command, FaultKind, Line, ReadFault, ScriptFault, command_text, edit_text, print, read,
+};
 use edit_rules::Edit;
 use scene_model::Form;
 use std::alloc::Global;
@@ -57,6 +59,19 @@ fn scripts_are_read(rt: HostRuntime) -> Result<(), Fail> {
         ),
     ] {
         assert_eq!(rt; count(rt.alloc(), text.as_bytes()), Ok(lines), "{text}");
+    }
+    Ok(())
+}
+
+#[test]
+fn scripts_are_printed(rt: HostRuntime) -> Result<(), Fail> {
+    for text in [
+        "dunnart 1\nend\n",
+        "dunnart 1\n1 box a 3 4 40 20\n1 layout\n1 layout\nend\n",
+    ] {
+        let script = read(rt.alloc(), text.as_bytes()).ok().ok_or("a script")?;
+        let bytes = print(rt.alloc(), &script)?;
+        assert_eq!(rt; bytes.as_slice(), text.as_bytes());
     }
     Ok(())
 }
