@@ -7,6 +7,12 @@ use units::{Memory, Name};
 #[derive(Clone, Copy, Debug, PartialEq, Eq)]
 pub enum Counted {
     Shapes,
+    Guides,
+    Links,
+    Groups,
+    Compounds,
+    Pages,
+    Members,
     Entries,
 }
 
@@ -19,7 +25,13 @@ pub enum Refusal {
     Unknown { name: Name },
     /// The new name stands already.
     Taken { name: Name },
-    /// So many stand already, and no more may.
+    /// The item of this name stands as another kind than is wanted.
+    Kind { name: Name },
+    /// The name equals an earlier one of a list whose names must differ.
+    Twice { name: Name },
+    /// The item that was to be removed is used by the item of this name.
+    InUse { by: Name },
+    /// So many stand already, and no more may; or the edit lists more members than that.
     Limit { what: Counted, count: u32 },
     /// The document was ended, by the entry at this place of the history.
     Ended { place: u32 },

@@ -218,6 +218,7 @@ edit_slots (edit.Remove n) = refl
 pub command_slots : (c : Command) → map slot_of (command_fields c) ≡ slots (command_keyword c)
 command_slots (command.Edit e) = edit_slots e
 command_slots command.Layout = refl
+command_slots (command.Where n) = refl
 
 edit_built : (e : Edit) → is_built (edit_keyword e) ≡ true
 edit_built (edit.Put n form.Box x y w h) = refl
@@ -232,3 +233,4 @@ edit_built (edit.Remove n) = refl
 pub built_again : (c : Command) → is_built (command_keyword c) ≡ true
 built_again (command.Edit e) = edit_built e
 built_again command.Layout = refl
+built_again (command.Where n) = refl

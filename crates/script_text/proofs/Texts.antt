@@ -46,6 +46,7 @@ from keyword.Move fs = command.Edit (edit.Move (name_in (nth 0 fs)) (number_in (
 from keyword.Hold fs = command.Edit (edit.Hold (name_in (nth 0 fs)))
 from keyword.Free fs = command.Edit (edit.Free (name_in (nth 0 fs)))
 from keyword.Remove fs = command.Edit (edit.Remove (name_in (nth 0 fs)))
+from keyword.Where fs = command.Where (name_in (nth 0 fs))
 from _ fs = command.Layout
 
 edit_back : (e : Edit) → from (edit_keyword e) (edit_fields e) ≡ command.Edit e
@@ -63,6 +64,7 @@ back : (c : Command) → from (command_keyword c) (command_fields c) ≡ c
 unfolding from nth name_in number_in
 back (command.Edit e) = edit_back e
 back command.Layout = refl
+back (command.Where n) = refl
 
 -- ---- a line is known by its number and its parts
 

@@ -62,11 +62,13 @@ edit_fields (edit.Remove n) = NameField n ∷ []
 abbrev pub command_keyword : Command → Keyword
 command_keyword (command.Edit e) = edit_keyword e
 command_keyword command.Layout = keyword.Layout
+command_keyword (command.Where n) = keyword.Where
 
 -- the fields of a command; a layout has none
 abbrev pub command_fields : Command → List Field
 command_fields (command.Edit e) = edit_fields e
 command_fields command.Layout = []
+command_fields (command.Where n) = NameField n ∷ []
 
 -- the word of an edit, and of a command
 abbrev pub edit_word : Edit → Word

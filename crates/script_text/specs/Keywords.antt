@@ -46,4 +46,5 @@ is_built keyword.Hold = true
 is_built keyword.Free = true
 is_built keyword.Remove = true
 is_built keyword.Layout = true
+is_built keyword.Where = true
 is_built _ = false

@@ -145,6 +145,10 @@ pub fn command(words: &mut Pieces<'_>) -> Result<Command, FaultKind>
             end(words).ok_or(FaultKind::Fields)?;
             Ok(Command::Layout)
         }
+        Keyword::Where => {
+            let name = one_name(words).ok_or(FaultKind::Fields)?;
+            Ok(Command::Where { name })
+        }
         other => Err(unbuilt(other, words)),
     }
 }

@@ -4,6 +4,7 @@ ghost use Rattle.script_text.specs.Scripts.{IsScript};
 
 use edit_rules::Edit;
 use std::marker::Model;
+use units::Name;
 
 /// What a line of a script asks for.
 #[derive(Debug, Drop, PartialEq)]
@@ -12,6 +13,10 @@ pub enum Command {
     Edit(Edit),
     /// Lays the diagram out, once.
     Layout,
+    /// Asks where the item of this name stands.
+    Where {
+        name: Name,
+    },
 }
 
 /// A command line of a script.

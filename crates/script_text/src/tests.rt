@@ -108,11 +108,7 @@ fn faults_have_lines_and_kinds(rt: HostRuntime) -> Result<(), Fail> {
         ("dunnart 1\n1 bax a 3 4 40 20\nend\n", 2, FaultKind::Command),
         ("dunnart 1\n1 Box a 0 0 10 10\nend\n", 2, FaultKind::Command),
         ("dunnart 1\n1 undo\nend\n", 2, FaultKind::NotYet),
-        (
-            "dunnart 1\n1 layout\n1 where a\nend\n",
-            3,
-            FaultKind::NotYet,
-        ),
+        ("dunnart 1\n1 layout\n1 undo\nend\n", 3, FaultKind::NotYet),
     ] {
         assert_eq!(rt;
             count(rt.alloc(), text.as_bytes()),
@@ -177,7 +173,6 @@ fn commands_that_are_not_built(rt: HostRuntime) -> Result<(), Fail> {
         "page p 0 0 600 800 20 rigid",
         "drop c",
         "undo",
-        "where a",
     ] {
         assert_eq!(rt;
             kind_of(rt.alloc(), command)?,
