@@ -2,4 +2,5 @@ pub mod Growing
 pub mod Keeping
 pub mod Refusing
 pub mod Resting
+pub mod Spots
 pub mod EndPlace

@@ -9,4 +9,5 @@ pub mod Legal
 pub mod Listing
 pub mod Projection
 pub mod Replies
+pub mod Spots
 pub mod Verdicts

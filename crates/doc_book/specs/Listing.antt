@@ -24,6 +24,8 @@ use Rattle.script_text.specs.Commands.{edit_words, command_words}
 use Rattle.doc_book.specs.declared.entries.Entry.{Entry}
 use Rattle.doc_book.specs.declared.entries.Act.{Act}
 use Rattle.doc_book.specs.declared.entries.Act.TheVariants as act
+use Rattle.doc_book.specs.declared.asking.Spot.{Spot}
+use Rattle.doc_book.specs.declared.asking.Spot.TheVariants as spot
 use Rattle.doc_book.specs.declared.replies.Reply.{Reply}
 use Rattle.doc_book.specs.declared.replies.Reply.TheVariants as reply
 use Rattle.doc_book.specs.History.{scene_at}
@@ -95,6 +97,12 @@ entry_lines before place (e ∷ es) = lines_of (scene_at before) place e ++ entr
 -- the word of what a limit counts
 abbrev pub counted_word : Counted → Word
 counted_word counted.Shapes = codes "shapes"
+counted_word counted.Guides = codes "guides"
+counted_word counted.Links = codes "links"
+counted_word counted.Groups = codes "groups"
+counted_word counted.Compounds = codes "compounds"
+counted_word counted.Pages = codes "pages"
+counted_word counted.Members = codes "members"
 counted_word counted.Entries = codes "entries"
 
 -- a refusal for want of memory ends the run and has no text
@@ -102,17 +110,30 @@ abbrev pub refusal_words : Refusal → List Word
 refusal_words (refusal.Range value) = codes "range" ∷ signed_decimal value ∷ []
 refusal_words (refusal.Unknown name) = codes "unknown" ∷ name ∷ []
 refusal_words (refusal.Taken name) = codes "taken" ∷ name ∷ []
+refusal_words (refusal.Kind name) = codes "kind" ∷ name ∷ []
+refusal_words (refusal.Twice name) = codes "twice" ∷ name ∷ []
+refusal_words (refusal.InUse by) = codes "inuse" ∷ by ∷ []
 refusal_words (refusal.Limit what count) = codes "limit" ∷ counted_word what ∷ decimal count ∷ []
 refusal_words (refusal.Ended place) = codes "ended" ∷ decimal place ∷ []
 refusal_words refusal.Memory = []
 
--- the words of a reply: which one it is, its place or front, and the cause of a refusal
+-- the words of a spot, in whole diagram units, X before Y: the corner of a shape, the axis and the place of a guideline,
+-- or the low and then the high edges of a group or page
+abbrev pub spot_words : Spot → List Word
+spot_words (spot.Shape x y) = codes "at" ∷ signed_decimal x ∷ signed_decimal y ∷ []
+spot_words (spot.Guide axis at) = codes "guide" ∷ axis_word axis ∷ signed_decimal at ∷ []
+spot_words (spot.Area x_low y_low x_high y_high) =
+    codes "area" ∷ signed_decimal x_low ∷ signed_decimal y_low ∷ signed_decimal x_high ∷ signed_decimal y_high ∷ []
+
+-- the words of a reply: which one it is, its place or front, and the cause of a refusal; of an answer the spot, then its
+-- front
 abbrev pub reply_words : Reply → List Word
 reply_words (reply.Accepted place) = codes "accepted" ∷ decimal place ∷ []
 reply_words (reply.Published place) = codes "published" ∷ decimal place ∷ []
 reply_words (reply.Refused r) = codes "refused" ∷ decimal r.front ∷ refusal_words r.refusal
 reply_words (reply.Idle front) = codes "idle" ∷ decimal front ∷ []
 reply_words (reply.Spent front) = codes "spent" ∷ decimal front ∷ []
+reply_words (reply.Answer a) = spot_words a.spot ++ decimal a.front ∷ []
 
 -- for each line of a session its number, its command and its reply
 abbrev pub reply_lines : ℕ → List Line → List Reply → List (List Word)

@@ -10,7 +10,9 @@ use Rattle.doc_book.specs.declared.entries.Act.{Act}
 use Rattle.doc_book.specs.declared.entries.Act.TheVariants as act
 use Rattle.doc_book.specs.declared.replies.Reply.{Reply}
 use Rattle.doc_book.specs.declared.replies.Reply.TheVariants as reply
-use Rattle.doc_book.specs.History.{end_place, frame_count, IsSettled}
+use Rattle.doc_book.specs.declared.asking.Spot.{Spot}
+use Rattle.doc_book.specs.History.{end_place, frame_count, scene_at, places_at, IsSettled}
+use Rattle.doc_book.specs.Spots.{IsSpot, ask_refusal}
 use Rattle.doc_book.specs.Verdicts.{verdict}
 
 -- what a look finds
@@ -44,16 +46,25 @@ IsFrameAct _ = ⊥
 abbrev pub IsAccepted : List Entry → ℕ → ℕ → ℕ → Command → Type 0
 IsAccepted h who line place (command.Edit e) = IsEntryAt h place who line (λ a. a ≡ act.Edit e) × (verdict (take place h) e ≡ None)
 IsAccepted h who line place command.Layout = ⊥
+IsAccepted h who line place (command.Where name) = ⊥
 
--- a refusal is the verdict on the edit, or Ended of a layout, at its front
+-- a refusal is the verdict on the edit, Ended of a layout, or that of the scene which was asked, at its front
 abbrev pub IsRefused : List Entry → ℕ → ℕ → Refusal → Command → Type 0
 IsRefused h budget front r (command.Edit e) = verdict (take front h) e ≡ Some r
 IsRefused h budget front r command.Layout = (place : ℕ) × (r ≡ refusal.Ended place) × IsLook (take front h) budget (Ending place)
+IsRefused h budget front r (command.Where name) = ask_refusal (scene_at (take front h)) name ≡ Some r
 
 -- the command asks for a frame
 abbrev pub IsLayout : Command → Type 0
 IsLayout (command.Edit e) = ⊥
 IsLayout command.Layout = ⊤
+IsLayout (command.Where name) = ⊥
+
+-- the command asks where an item stands, and after these entries the item of its name stands at the spot
+abbrev pub IsAnswered : List Entry → Spot → Command → Type 0
+IsAnswered h spot (command.Edit e) = ⊥
+IsAnswered h spot command.Layout = ⊥
+IsAnswered h spot (command.Where name) = IsSpot (scene_at h) (places_at h) name spot
 
 -- the reply of a history with this budget to a caller's line is right
 abbrev pub IsRightReply : List Entry → ℕ → ℕ → Line → Reply → Type 0
@@ -62,6 +73,7 @@ IsRightReply h budget who line (reply.Published place) = IsLayout line.command �
 IsRightReply h budget who line (reply.Refused r) = (r.front ≤ length h) × IsRefused h budget r.front r.refusal line.command
 IsRightReply h budget who line (reply.Idle front) = (front ≤ length h) × IsLayout line.command × IsLook (take front h) budget Idle
 IsRightReply h budget who line (reply.Spent front) = (front ≤ length h) × IsLayout line.command × IsLook (take front h) budget Spent
+IsRightReply h budget who line (reply.Answer a) = (a.front ≤ length h) × IsAnswered (take a.front h) a.spot line.command
 
 -- how many entries a caller has seen after a reply
 abbrev pub after_of : Reply → ℕ
@@ -70,6 +82,7 @@ after_of (reply.Published place) = place + 1
 after_of (reply.Refused r) = r.front
 after_of (reply.Idle front) = front
 after_of (reply.Spent front) = front
+after_of (reply.Answer a) = a.front
 
 -- at how many entries a reply was given
 abbrev pub from_of : Reply → ℕ
@@ -78,6 +91,7 @@ from_of (reply.Published place) = place
 from_of (reply.Refused r) = r.front
 from_of (reply.Idle front) = front
 from_of (reply.Spent front) = front
+from_of (reply.Answer a) = a.front
 
 -- the replies to a caller's lines, one for each in order: each is right, and none was given before the caller had
 -- seen what the one before it showed
@@ -100,6 +114,7 @@ made_places (reply.Published place ∷ rs) = place ∷ made_places rs
 made_places (reply.Refused r ∷ rs) = made_places rs
 made_places (reply.Idle front ∷ rs) = made_places rs
 made_places (reply.Spent front ∷ rs) = made_places rs
+made_places (reply.Answer a ∷ rs) = made_places rs
 
 -- the entries of a caller are those at the places that its replies name, in order, each once
 abbrev pub OwnEntriesAre : List Entry → ℕ → List Reply → Type 0

@@ -1,5 +1,7 @@
 //! The book: a document that keeps its history legal.
 ghost use Rattle.std.specs.Prelude.{◌≡◌, ◌↔◌, ◌≤◌, ◌<◌, ◌^◌, [], IsTrue, length};
+ghost use Rattle.units.specs.declared.geometry.Axis.TheVariants as axes;
+ghost use Rattle.scene_model.specs.Variables.{variables};
 ghost use Rattle.doc_book.specs.Document.{Document};
 ghost use Rattle.doc_book.specs.History.{scene_at, places_at, IsSettled};
 ghost use Rattle.doc_book.specs.Legal.{IsLegal};
@@ -88,9 +90,11 @@ impl Book {
         &self.scene
     }
 
-    /// Where the variables stand after the history, in whole diagram units.
+    /// Where the variables stand after the history, in whole diagram units: a place for each.
     pub fn places(&self) -> &Places
-        ensures { result.now ≡ places_at self.now.history }
+        ensures value { result.now ≡ places_at self.now.history }
+        ensures on_x { length result.now.x ≡ length (variables (scene_at self.now.history) axes.X) }
+        ensures on_y { length result.now.y ≡ length (variables (scene_at self.now.history) axes.Y) }
     {
         &self.places
     }

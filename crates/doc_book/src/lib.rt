@@ -1,6 +1,7 @@
 //! The document: its history, its legal entries, the answers to its callers, and the text of its listing.
 #![tactic(auto)]
 
+pub mod asking;
 pub mod book;
 mod editing;
 pub mod entries;
@@ -9,6 +10,7 @@ pub mod laying;
 pub mod replies;
 mod scanning;
 
+pub use asking::{Answer, Spot};
 pub use book::{Book, MOST_FRAMES};
 pub use editing::MOST_ENTRIES;
 pub use entries::{Act, Entry};

@@ -1,4 +1,5 @@
 //! The replies to the lines of a script.
+use crate::asking::Answer;
 use edit_rules::Refusal;
 
 /// A refusal, and the front at which it was given.
@@ -22,4 +23,6 @@ pub enum Reply {
     Idle { front: u32 },
     /// The budget of frames is used up.
     Spent { front: u32 },
+    /// The item that was asked for stands there.
+    Answer(Answer),
 }

@@ -1,10 +1,11 @@
 //! What no clause says: with ample memory edits, frames and End are entered. Expected values are by the order of the
-//! causes: an edit is ended, then full, then refused by the scene; a layout is ending, spent, idle, else published.
+//! causes: an edit is ended, then full, then refused by the scene; a layout is ending, spent, idle, else published. A
+//! shape that an edit moved stands at its new corner.
 ghost use Rattle.std.specs.Prelude.{IsTrue, IsSome};
 ghost use Rattle.doc_book.specs.History.{end_place as place_of_end};
 
 use crate::scanning::end_place;
-use crate::{Book, Finish, Laid, Refused};
+use crate::{Answer, Book, Finish, Laid, Refused, Spot};
 use edit_rules::{Edit, Refusal};
 use scene_model::Form;
 use std::test::Fail;
@@ -59,6 +60,32 @@ fn frames_are_entered_until_none_is_wanted(rt: HostRuntime) -> Result<(), Fail> 
     };
     assert_eq!(rt; book.layout(alloc, 1, 6), spent);
     let _named: Option<Refusal> = None;
+    Ok(())
+}
+
+#[test]
+fn a_shape_is_asked_for(rt: HostRuntime) -> Result<(), Fail> {
+    let alloc = rt.alloc();
+    let name = Name::of(b"a").ok_or("a name")?;
+    let mut book = Book::new(alloc, 64);
+    let unknown = Refused {
+        refusal: Refusal::Unknown { name },
+        front: 0,
+    };
+    assert_eq!(rt; book.ask(&name), Err(unknown));
+    assert_eq!(rt; book.edit(alloc, 1, 2, a_box(name, 3)), Ok(0));
+    let made = Answer {
+        spot: Spot::Shape { x: 3, y: 0 },
+        front: 1,
+    };
+    assert_eq!(rt; book.ask(&name), Ok(made));
+    let to = Edit::Move { name, x: -7, y: 5 };
+    assert_eq!(rt; book.edit(alloc, 1, 4, to), Ok(1));
+    let moved = Answer {
+        spot: Spot::Shape { x: -7, y: 5 },
+        front: 2,
+    };
+    assert_eq!(rt; book.ask(&name), Ok(moved));
     Ok(())
 }
 

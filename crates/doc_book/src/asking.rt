@@ -1,0 +1,99 @@
+//! Where the item of a name stands.
+ghost use Rattle.std.specs.Prelude.{◌≡◌, Some, IsSome, MatchResult, IfOk, IfErr, length};
+ghost use Rattle.units.specs.declared.geometry.Axis.TheVariants as axes;
+ghost use Rattle.scene_model.specs.declared.items.Sort.TheVariants as sort;
+ghost use Rattle.scene_model.specs.Items.{sort_named};
+ghost use Rattle.scene_model.specs.Variables.{variables};
+ghost use Rattle.doc_book.specs.History.{scene_at, places_at};
+ghost use Rattle.doc_book.specs.Spots.{number_named, IsPlaceOf, IsSpot, ask_refusal};
+
+use crate::book::Book;
+use crate::replies::Refused;
+use edit_rules::Refusal;
+use frame_store::Places;
+use scene_model::{Scene, Sort, VariableName};
+use units::{Axis, Name};
+
+/// Where an item stands, in whole diagram units: the present places of its variables, each within 2^31 of 0.
+#[derive(Clone, Copy, Debug, PartialEq, Eq)]
+pub enum Spot {
+    /// The low corner of a shape.
+    Shape {
+        x: i64,
+        y: i64,
+    },
+    /// The line of a guideline, across this axis.
+    Guide {
+        axis: Axis,
+        at: i64,
+    },
+    /// The low and the high edges of a group or page.
+    Area {
+        x_low: i64,
+        y_low: i64,
+        x_high: i64,
+        y_high: i64,
+    },
+}
+
+/// Where an item stands, and the front at which it was answered.
+#[derive(Clone, Copy, Debug, PartialEq, Eq)]
+pub struct Answer {
+    pub spot: Spot,
+    /// How many entries the history had.
+    pub front: u32,
+}
+
+impl Book {
+    /// Where the item of this name stands at the present places. Unknown comes exactly where no item of the scene has the
+    /// name. It takes no memory and changes nothing.
+    pub fn ask(&self, name: &Name) -> Result<Answer, Refused>
+        ensures answered { IfOk result (λ answer. IsSpot (scene_at self.now.history) (places_at self.now.history) name.now answer.spot
+            × (answer.front ≡ length self.now.history)) }
+        ensures refused { IfErr result (λ r. (ask_refusal (scene_at self.now.history) name.now ≡ Some r.refusal)
+            × (r.front ≡ length self.now.history)) }
+    {
+        let front = self.front();
+        match spot_of(self.scene(), self.places(), name) {
+            Ok(spot) => Ok(Answer { spot, front }),
+            Err(refusal) => Err(Refused { refusal, front }),
+        }
+    }
+}
+
+/// Where the item of this name stands, at the places of all variables.
+fn spot_of(scene: &Scene, places: &Places, name: &Name) -> Result<Spot, Refusal>
+    requires on_x { length places.now.x ≡ length (variables scene.now axes.X) }
+    requires on_y { length places.now.y ≡ length (variables scene.now axes.Y) }
+    ensures { MatchResult result (λ spot. IsSpot scene.now places.now name.now spot) (λ r. ask_refusal scene.now name.now ≡ Some r) }
+{
+    let Some(item) = scene.lookup(name) else {
+        return Err(Refusal::Unknown { name: *name });
+    };
+    match item.sort {
+        Sort::Shape => Ok(shape_spot(scene, places, name)),
+    }
+}
+
+fn shape_spot(scene: &Scene, places: &Places, name: &Name) -> Spot
+    requires stands { sort_named scene.now name.now ≡ Some sort.Shape }
+    requires on_x { length places.now.x ≡ length (variables scene.now axes.X) }
+    requires on_y { length places.now.y ≡ length (variables scene.now axes.Y) }
+    ensures { IsSpot scene.now places.now name.now result }
+{
+    let variable = VariableName::OfItem(*name);
+    Spot::Shape {
+        x: place(scene, Axis::X, places.x.as_slice(), &variable),
+        y: place(scene, Axis::Y, places.y.as_slice(), &variable),
+    }
+}
+
+/// The place of the variable of this name, among those of its axis.
+fn place(scene: &Scene, axis: Axis, places: &[i64], name: &VariableName) -> i64
+    requires stands { IsSome (number_named scene.now axis name.now) }
+    requires as_long { length places.now ≡ length (variables scene.now axis) }
+    ensures { IsPlaceOf scene.now axis places.now name.now result }
+{
+    let number = scene.variable_named(axis, name).unwrap();
+    places[usize::from(number)]
+}
