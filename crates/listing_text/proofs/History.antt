@@ -1,18 +1,16 @@
 -- The entries of a history, from left to right.
 use Rattle.std.proofs.Common.{◌≡◌, ℕ, ◌+◌, ◌<◌, ◌≤◌, List, [], ◌∷◌, ◌++◌, length, take, drop, get_or, Option, Some, None, refl, sym, ap, subst, ◌∙◌, zero, suc, arith, ◌^◌}
 use Rattle.std.proofs.lemmas.List.{take_more, drop_more, drop_all}
-use Rattle.std.proofs.lemmas.Grind.{fold-append}
 use Rattle.edit_rules.specs.declared.edits.Edit.{Edit}
-use Rattle.edit_rules.specs.declared.refusals.Refusal.{Refusal}
-use Rattle.edit_rules.specs.Refusals.{first_of, refusal_of}
-use Rattle.edit_rules.specs.Effects.{edited, scene_of}
-use Rattle.scene_model.specs.Diagram.{Diagram, empty_diagram}
+use Rattle.edit_rules.specs.Effects.{scene_of}
+use Rattle.scene_model.specs.Diagram.{Diagram}
+use Rattle.doc_book.proofs.Growing.{scene_at-push, scene_of-push}
 use Rattle.doc_book.proofs.Keeping.{few_moves_at}
+use Rattle.doc_book.proofs.Refusing.{scene_accepts}
 use Rattle.doc_book.specs.declared.entries.Entry.{Entry}
 use Rattle.doc_book.specs.declared.entries.Act.{Act}
 use Rattle.doc_book.specs.declared.entries.Act.TheVariants as act
 use Rattle.doc_book.specs.History.{scene_at, standing, edits_after}
-use Rattle.doc_book.specs.Verdicts.{ended_refusal, entries_refusal}
 use Rattle.doc_book.specs.Legal.{ActMayFollow, AllMayFollow}
 use Rattle.doc_book.specs.Listing.{text_lines, lines_of, entry_lines}
 use Rattle.listing_text.specs.Steps.{scene_after, IsAccepting}
@@ -20,24 +18,18 @@ use Rattle.listing_text.proofs.Lines.{text_lines-append}
 
 -- ---- the scene
 
+-- the scene of the standing edits after an act
 scene_of_after : (edits : List Edit) (a : Act) → scene_of (edits_after edits a) ≡ scene_after (scene_of edits) a
-scene_of_after edits (act.Edit e) = fold-append (λ (d : Diagram) (x : Edit). edited x d) empty_diagram edits (e ∷ [])
+scene_of_after edits (act.Edit e) = scene_of-push edits e
 scene_of_after edits (act.Frame f) = refl
 scene_of_after edits act.End = refl
 
-pub scene_at-push : (h : List Entry) (e : Entry) → scene_at (h ++ e ∷ []) ≡ scene_after (scene_at h) e.act
-scene_at-push h e =
-    ap scene_of (fold-append (λ (edits : List Edit) (x : Entry). edits_after edits x.act) [] h (e ∷ []))
-    ∙ scene_of_after (standing h) e.act
-
-third_none : (a b c : Option Refusal) → first_of (a ∷ b ∷ c ∷ []) ≡ None → c ≡ None
-third_none None None None e = refl
-third_none None None (Some r) e = absurd cc
-third_none None (Some r) c e = absurd cc
-third_none (Some r) b c e = absurd cc
+-- the scene after one more entry
+pub scene_after-push : (h : List Entry) (e : Entry) → scene_at (h ++ e ∷ []) ≡ scene_after (scene_at h) e.act
+scene_after-push h e = scene_at-push h e ∙ scene_of_after (standing h) e.act
 
 accepts : (h : List Entry) (budget : ℕ) (e : Entry) (a : Act) → length h ≤ 4294967294 → ActMayFollow h budget e a → IsAccepting (scene_at h) a
-accepts h budget e (act.Edit edit) short may = (third_none (ended_refusal h) (entries_refusal h) (refusal_of (scene_at h) edit) may, few_moves_at h 4294967294 short)
+accepts h budget e (act.Edit edit) short may = (scene_accepts h edit may, few_moves_at h 4294967294 short)
 accepts h budget e (act.Frame f) short may = tt
 accepts h budget e act.End short may = tt
 
@@ -68,7 +60,7 @@ module _ (h : List Entry) (k : ℕ) (e : Entry) (lt : k < length h) (is : e ≡ 
   entry_put scene of = entries_step ∙ ap (λ s. text_lines (lines_of s k e) ++ text_lines (entry_lines (take (k + 1) h) (k + 1) (drop (k + 1) h))) (sym of)
 
   pub scene_step : scene_at (take (k + 1) h) ≡ scene_after (scene_at (take k h)) e.act
-  scene_step = ap scene_at (sym front) ∙ scene_at-push (take k h) e
+  scene_step = ap scene_at (sym front) ∙ scene_after-push (take k h) e
 
   pub legal_here : (budget : ℕ) → length h < 2 ^ 32 → AllMayFollow (take k h) budget (drop k h) → IsAccepting (scene_at (take k h)) e.act
   legal_here budget short legal =

@@ -1,6 +1,6 @@
 -- Lines of words, and the lists that give them.
 use Rattle.std.proofs.Common.{◌≡◌, ℕ, ◌+◌, ◌<◌, ℤ, List, [], ◌∷◌, ◌++◌, length, drop, get_or, refl, sym, ap, ◌∙◌, append_assoc, arith, length-append, eq-eqb, ne_eqb}
-use Rattle.std.specs.Prelude.{codes, decimal, ◌==◌, true, false, cond, slice_get, Some, pos, Bool}
+use Rattle.std.specs.Prelude.{codes, decimal, ◌==◌, true, false, cond, slice_get, Some, pos, Bool, Result, Ok, Err, OnOk}
 use Rattle.std.specs.Fmt.{signed_decimal}
 use Rattle.std.specs.Ordering.{int_eq}
 use Rattle.std.specs.Bool.{Decides}
@@ -58,6 +58,12 @@ made_words t₂ t₃ t₄ t₅ c cs q rs e₃ e₄ e₅ =
     ∙ append_assoc (t₂ ++ 32 ∷ spaced (c ∷ cs)) (32 ∷ q) (behind rs)
     ∙ append_assoc t₂ (32 ∷ spaced (c ∷ cs)) (behind (q ∷ rs))
     ∙ ap (λ bytes. t₂ ++ bytes) (ap (λ bytes. bytes ++ behind (q ∷ rs)) (behind_spaced c cs) ∙ sym (behind-append (c ∷ cs) (q ∷ rs)))
+
+-- three lists of words, one behind the other
+pub made_behind : {A B : Type 0} (r : Result A B) (t₀ t₁ t₂ t₃ : List ℕ) (us vs ws : List Word)
+    → t₁ ≡ t₀ ++ behind us → t₂ ≡ t₁ ++ behind vs → OnOk r (t₃ ≡ t₂ ++ behind ws) → OnOk r (t₃ ≡ t₀ ++ behind (us ++ (vs ++ ws)))
+made_behind (Ok a) t₀ t₁ t₂ t₃ us vs ws e₁ e₂ e₃ = rw (behind-append us (vs ++ ws), behind-append vs ws, e₃, e₂, e₁) (simp append_assoc refl)
+made_behind (Err b) t₀ t₁ t₂ t₃ us vs ws e₁ e₂ e₃ = tt
 
 -- the line of a reply is made from left to right
 pub made_reply : (t₁ t₂ t₅ t₆ : List ℕ) (a b : Word) (ws : List Word) → t₁ ≡ a → t₂ ≡ t₁ ++ 32 ∷ b → t₅ ≡ t₂ ++ behind ws → t₆ ≡ t₅ ++ 10 ∷ []

@@ -1,11 +1,13 @@
 -- The texts of worked listings, by computation.
-use Rattle.std.specs.Prelude.{◌≡◌, ℕ, ℤ, pos, negsuc, false, List, [], ◌∷◌, codes, refl}
+use Rattle.std.specs.Prelude.{◌≡◌, ℕ, ℤ, pos, negsuc, false, List, [], ◌∷◌, codes, map, refl}
 use Rattle.std.specs.Fmt.{digits}
-use Rattle.units.specs.declared.geometry.Axis.TheVariants.{X}
+use Rattle.units.specs.declared.geometry.Axis.TheVariants.{X, Y}
 use Rattle.scene_model.specs.declared.items.Form.TheVariants.{Box}
 use Rattle.scene_model.specs.declared.items.Shape.{Shape}
 use Rattle.edit_rules.specs.declared.edits.Edit.{Edit}
 use Rattle.edit_rules.specs.declared.edits.Edit.TheVariants as edit
+use Rattle.edit_rules.specs.declared.refusals.Counted.TheVariants as counted
+use Rattle.edit_rules.specs.declared.refusals.Refusal.TheVariants as refusal
 use Rattle.frac128.specs.Fraction.{Fraction, whole}
 use Rattle.multiplier_check.specs.declared.certificate.Certificate.{Certificate}
 use Rattle.frame_store.specs.declared.frames.Frame.{Frame}
@@ -15,7 +17,8 @@ use Rattle.doc_book.specs.declared.entries.Entry.{Entry}
 use Rattle.doc_book.specs.declared.entries.Act.TheVariants as act
 use Rattle.doc_book.specs.declared.replies.Reply.{Reply}
 use Rattle.doc_book.specs.declared.replies.Reply.TheVariants as reply
-use Rattle.doc_book.specs.Listing.{text_lines, certificate_lines, listing_text}
+use Rattle.doc_book.specs.declared.asking.Spot.TheVariants as spot
+use Rattle.doc_book.specs.Listing.{text_lines, certificate_lines, refusal_words, reply_words, listing_text}
 
 no_replies : List (List Reply)
 no_replies = [] ∷ [] ∷ [] ∷ [] ∷ [] ∷ [] ∷ [] ∷ [] ∷ []
@@ -59,6 +62,23 @@ first_box : listing_text script history replies
     ≡ codes "listing 1\n0 1 2 box a 3 4 40 20\n1 1 3 frame\nx a 3 3\ny a 4 4\n2 0 0 end\n3 0 0 frame\nx a 3 3\ny a 4 4\nreplies\n1 2 box a 3 4 40 20 = accepted 0\n1 3 layout = published 1\n1 4 layout = idle 2\ndone\n"
 unfolding digits
 first_box = refl
+
+-- ---- where items stand, and refusals
+
+-- a shape, a guideline and a group, each with the front
+spots : text_lines (map (λ a. reply_words (reply.Answer a)) (
+    record { spot = spot.Shape (pos 0) (negsuc 2); front = 5 } ∷ record { spot = spot.Guide Y (pos 200); front = 6 }
+    ∷ record { spot = spot.Area (negsuc 14) (pos 0) (pos 55) (pos 35); front = 7 } ∷ []))
+    ≡ codes "at 0 -3 5\nguide y 200 6\narea -15 0 55 35 7\n"
+unfolding digits
+spots = refl
+
+-- another kind, a name that is listed twice, an item that is used, and too many members
+causes : text_lines (map refusal_words (
+    refusal.Kind (codes "a") ∷ refusal.Twice (codes "b") ∷ refusal.InUse (codes "l") ∷ refusal.Limit counted.Members 128 ∷ []))
+    ≡ codes "kind a\ntwice b\ninuse l\nlimit members 128\n"
+unfolding digits
+causes = refl
 
 -- ---- frames with multipliers
 

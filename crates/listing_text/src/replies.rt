@@ -1,24 +1,31 @@
 //! The lines of the replies.
 ghost use Rattle.std.specs.Prelude.{◌≡◌, ◌∷◌, ◌++◌, [], codes, decimal, IfOk, OnOk};
+ghost use Rattle.std.specs.Fmt.{signed_decimal};
 ghost use Rattle.script_text.specs.Commands.{command_words};
-ghost use Rattle.doc_book.specs.Listing.{counted_word, refusal_words, reply_words, text_line, text_lines, reply_lines, session_lines, sessions_lines};
+ghost use Rattle.doc_book.specs.Listing.{axis_word, counted_word, refusal_words, spot_words, reply_words, text_line, text_lines, reply_lines, session_lines, sessions_lines};
 ghost use Rattle.listing_text.specs.Words.{behind};
 ghost use Rattle.listing_text.specs.Putting.{Puts};
 
 use crate::putting::put;
-use crate::words::{add_count, add_number, add_word, begin_with};
+use crate::words::{add_count, add_number, add_word, axis_word, begin_with};
 use byte_edge::{Sink, SinkStop};
-use doc_book::Reply;
+use doc_book::{Answer, Reply, Spot};
 use edit_rules::{Counted, Refusal};
 use script_text::{Line, command_text};
 use std::alloc::{AllocError, Global};
-use units::{Memory, Sequence};
+use units::{Axis, Memory, Sequence};
 
 fn counted_word(what: Counted) -> &'static [u8]
     ensures { result.now ≡ counted_word what }
 {
     match what {
         Counted::Shapes => b"shapes",
+        Counted::Guides => b"guides",
+        Counted::Links => b"links",
+        Counted::Groups => b"groups",
+        Counted::Compounds => b"compounds",
+        Counted::Pages => b"pages",
+        Counted::Members => b"members",
         Counted::Entries => b"entries",
     }
 }
@@ -39,6 +46,18 @@ fn add_refusal(text: &mut Vec<u8>, refusal: &Refusal) -> Result<(), AllocError>
         Refusal::Taken { name } => {
             add_word(text, b"taken")?;
             add_word(text, name.bytes())
+        }
+        Refusal::Kind { name } => {
+            add_word(text, b"kind")?;
+            add_word(text, name.bytes())
+        }
+        Refusal::Twice { name } => {
+            add_word(text, b"twice")?;
+            add_word(text, name.bytes())
+        }
+        Refusal::InUse { by } => {
+            add_word(text, b"inuse")?;
+            add_word(text, by.bytes())
         }
         Refusal::Limit { what, count } => {
             add_word(text, b"limit")?;
@@ -61,6 +80,71 @@ fn add_counted(text: &mut Vec<u8>, word: &[u8], count: u32) -> Result<(), AllocE
     add_count(text, count)
 }
 
+/// Adds a number on X and a number on Y.
+fn add_pair(text: &mut Vec<u8>, x: i64, y: i64) -> Result<(), AllocError>
+    ensures { OnOk result (text.new.items ≡ text.old.items ++ behind (signed_decimal x ∷ signed_decimal y ∷ [])) }
+{
+    add_number(text, x)?;
+    add_number(text, y)
+}
+
+/// Adds the words of the corner of a shape.
+fn add_corner(text: &mut Vec<u8>, x: i64, y: i64) -> Result<(), AllocError>
+    ensures { OnOk result (text.new.items ≡ text.old.items ++ behind (codes "at" ∷ signed_decimal x ∷ signed_decimal y ∷ [])) }
+{
+    add_word(text, b"at")?;
+    add_pair(text, x, y)
+}
+
+/// Adds the words of a guideline.
+fn add_guide(text: &mut Vec<u8>, axis: Axis, at: i64) -> Result<(), AllocError>
+    ensures { OnOk result (text.new.items ≡ text.old.items ++ behind (codes "guide" ∷ axis_word axis ∷ signed_decimal at ∷ [])) }
+{
+    add_word(text, b"guide")?;
+    add_word(text, axis_word(axis))?;
+    add_number(text, at)
+}
+
+/// Adds the words of a group or page.
+fn add_area(
+    text: &mut Vec<u8>,
+    x_low: i64,
+    y_low: i64,
+    x_high: i64,
+    y_high: i64,
+) -> Result<(), AllocError>
+    ensures { OnOk result (text.new.items ≡ text.old.items
+        ++ behind (codes "area" ∷ signed_decimal x_low ∷ signed_decimal y_low ∷ signed_decimal x_high ∷ signed_decimal y_high ∷ [])) }
+{
+    add_word(text, b"area")?;
+    add_pair(text, x_low, y_low)?;
+    add_pair(text, x_high, y_high)
+}
+
+/// Adds the words of a spot.
+fn add_spot(text: &mut Vec<u8>, spot: Spot) -> Result<(), AllocError>
+    ensures { OnOk result (text.new.items ≡ text.old.items ++ behind (spot_words spot)) }
+{
+    match spot {
+        Spot::Shape { x, y } => add_corner(text, x, y),
+        Spot::Guide { axis, at } => add_guide(text, axis, at),
+        Spot::Area {
+            x_low,
+            y_low,
+            x_high,
+            y_high,
+        } => add_area(text, x_low, y_low, x_high, y_high),
+    }
+}
+
+/// Adds the words of an answer.
+fn add_answer(text: &mut Vec<u8>, answer: Answer) -> Result<(), AllocError>
+    ensures { OnOk result (text.new.items ≡ text.old.items ++ behind (spot_words answer.spot ++ decimal answer.front ∷ [])) }
+{
+    add_spot(text, answer.spot)?;
+    add_count(text, answer.front)
+}
+
 /// Adds the words of a reply.
 fn add_reply(text: &mut Vec<u8>, reply: &Reply) -> Result<(), AllocError>
     ensures { OnOk result (text.new.items ≡ text.old.items ++ behind (reply_words reply.now)) }
@@ -74,6 +158,7 @@ fn add_reply(text: &mut Vec<u8>, reply: &Reply) -> Result<(), AllocError>
         }
         Reply::Idle { front } => add_counted(text, b"idle", *front),
         Reply::Spent { front } => add_counted(text, b"spent", *front),
+        Reply::Answer(answer) => add_answer(text, *answer),
     }
 }
 
