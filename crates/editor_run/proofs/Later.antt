@@ -12,8 +12,10 @@ use Rattle.doc_book.specs.declared.entries.Entry.{Entry}
 use Rattle.doc_book.specs.declared.entries.Act.{Act}
 use Rattle.doc_book.specs.declared.replies.Reply.{Reply}
 use Rattle.doc_book.specs.declared.replies.Reply.TheVariants as reply
+use Rattle.doc_book.specs.History.{scene_at}
+use Rattle.doc_book.specs.Spots.{ask_refusal}
 use Rattle.doc_book.specs.Verdicts.{verdict}
-use Rattle.doc_book.specs.Replies.{Ending, Spent, Idle, IsLook, IsEntryAt, IsFrameAct, IsAccepted, IsRefused, IsRightReply, AreRightReplies, OwnEntriesAre, own_entries, made_places, after_of}
+use Rattle.doc_book.specs.Replies.{Ending, Spent, Idle, IsLook, IsEntryAt, IsFrameAct, IsAccepted, IsRefused, IsAnswered, IsRightReply, AreRightReplies, OwnEntriesAre, own_entries, made_places, after_of}
 
 -- ---- an element, and the front of a list
 
@@ -38,11 +40,13 @@ IsAccepted-append h more who line place (command.Edit e) is =
     let within : place < length h = slice_get_within h place is.0.0 is.0.1 in
     (IsEntryAt-append h more place who line _ is.0, subst (λ (t : List Entry). verdict t e ≡ None) (front-same h more place (omega arith)) is.1)
 IsAccepted-append h more who line place command.Layout is = is
+IsAccepted-append h more who line place (command.Where name) is = is
 
 IsRefused-append : (h more : List Entry) (budget front : ℕ) (r : Refusal) (c : Command) → front ≤ length h → IsRefused h budget front r c → IsRefused (h ++ more) budget front r c
 IsRefused-append h more budget front r (command.Edit e) le is = subst (λ (t : List Entry). verdict t e ≡ Some r) (front-same h more front le) is
 IsRefused-append h more budget front r command.Layout le is =
     (is.0, is.1, subst (λ (t : List Entry). IsLook t budget (Ending is.0)) (front-same h more front le) is.2)
+IsRefused-append h more budget front r (command.Where name) le is = subst (λ (t : List Entry). ask_refusal (scene_at t) name ≡ Some r) (front-same h more front le) is
 
 -- a right reply stays right as further entries come
 pub IsRightReply-append : (h more : List Entry) (budget who : ℕ) (line : Line) (r : Reply) → IsRightReply h budget who line r → IsRightReply (h ++ more) budget who line r
@@ -54,6 +58,8 @@ IsRightReply-append h more budget who line (reply.Idle front) is =
     (longer h more front is.0, is.1, subst (λ (t : List Entry). IsLook t budget Idle) (front-same h more front is.0) is.2)
 IsRightReply-append h more budget who line (reply.Spent front) is =
     (longer h more front is.0, is.1, subst (λ (t : List Entry). IsLook t budget Spent) (front-same h more front is.0) is.2)
+IsRightReply-append h more budget who line (reply.Answer a) is =
+    (longer h more a.front is.0, subst (λ (t : List Entry). IsAnswered t a.spot line.command) (front-same h more a.front is.0) is.1)
 
 -- right replies stay right as further entries come
 pub AreRightReplies-append : (h more : List Entry) (budget who seen : ℕ) (lines : List Line) (replies : List Reply) → AreRightReplies h budget who seen lines replies → AreRightReplies (h ++ more) budget who seen lines replies

@@ -1,3 +1,4 @@
+pub mod Elements
 pub mod Later
 pub mod Lines
 pub mod Replying

@@ -13,23 +13,9 @@ use Rattle.doc_book.specs.Listing.{session_lines}
 use Rattle.doc_book.specs.Replies.{IsRightReply, AreRightReplies, OwnEntriesAre, own_entries, made_places, after_of, from_of}
 use Rattle.editor_run.specs.Played.{ForSessions}
 use Rattle.editor_run.specs.Progress.{Adds, PlaysLine, HasReplies, HasPlayed, IsSessionLine, IsSessionEntry, made_place, with_reply}
+use Rattle.editor_run.proofs.Elements.{all-push, all-then, all-at}
 use Rattle.editor_run.proofs.Later.{AreRightReplies-append, OwnEntriesAre-append, elements-append}
 use Rattle.editor_run.proofs.Replying.{slice_get-last}
-
--- ---- what holds of each element
-
-all-push : {A : Type 0} (P : A → Type 0) (xs : List A) (x : A) → AllByRecursion P xs → P x → AllByRecursion P (xs ++ x ∷ [])
-all-push P [] x all this = (this, tt)
-all-push P (y ∷ ys) x all this = (all.0, all-push P ys x all.1 this)
-
-all-then : {A : Type 0} (P Q : A → Type 0) (xs : List A) → ((x : A) → P x → Q x) → AllByRecursion P xs → AllByRecursion Q xs
-all-then P Q [] step all = tt
-all-then P Q (y ∷ ys) step all = (step y all.0, all-then P Q ys step all.1)
-
-pub all-at : {A : Type 0} (P : A → Type 0) (xs : List A) (i : ℕ) (d : A) → AllByRecursion P xs → i < length xs → P (get_or xs i d)
-all-at P [] i d all within = absurd (omega arith)
-all-at P (y ∷ ys) zero d all within = all.0
-all-at P (y ∷ ys) (suc i) d all within = all-at P ys i d all.1 (omega arith)
 
 -- ---- replies with one more
 
@@ -49,6 +35,7 @@ made_places-append (reply.Published place ∷ xs) ys = ap (λ ps. place ∷ ps) 
 made_places-append (reply.Refused r ∷ xs) ys = made_places-append xs ys
 made_places-append (reply.Idle front ∷ xs) ys = made_places-append xs ys
 made_places-append (reply.Spent front ∷ xs) ys = made_places-append xs ys
+made_places-append (reply.Answer a ∷ xs) ys = made_places-append xs ys
 
 made_places-none : (r : Reply) → made_place r ≡ None → made_places (r ∷ []) ≡ []
 made_places-none (reply.Accepted place) none = cc
@@ -56,6 +43,7 @@ made_places-none (reply.Published place) none = cc
 made_places-none (reply.Refused r) none = refl
 made_places-none (reply.Idle front) none = refl
 made_places-none (reply.Spent front) none = refl
+made_places-none (reply.Answer a) none = refl
 
 made_places-some : (r : Reply) (p : ℕ) → made_place r ≡ Some p → made_places (r ∷ []) ≡ p ∷ []
 made_places-some (reply.Accepted place) p some = cc
@@ -63,6 +51,7 @@ made_places-some (reply.Published place) p some = cc
 made_places-some (reply.Refused r) p some = cc
 made_places-some (reply.Idle front) p some = cc
 made_places-some (reply.Spent front) p some = cc
+made_places-some (reply.Answer a) p some = cc
 
 -- ---- own entries with one more
 

@@ -14,6 +14,7 @@ use Rattle.doc_book.specs.Finished.{IsFinished, IsFinishing}
 use Rattle.doc_book.specs.History.{end_place, after_end, is_end, is_end_act, is_frame_act, IsSettled}
 use Rattle.doc_book.proofs.Growing.{end_place-push_none, end_place-push_some, after_end-push_some}
 use Rattle.editor_run.specs.Finishing.{GrowsOnce, GrowsByFinishing}
+use Rattle.editor_run.proofs.Elements.{all-push}
 
 -- a history behind a start that was just ended, with finishing frames alone, of which none but the last may settle it
 pub record FinishesFrom (start h : Document) : Type 0 where
@@ -69,10 +70,6 @@ FinishesFrom-start d ended none = record {
   unsettled = λ n below some settled. absurd (omega (arith, some, ap length (after_end-take d.history n none)));
 }
 
-AllByRecursion-push : {A : Type 0} (P : A → Type 0) (xs : List A) (x : A) → AllByRecursion P xs → P x → AllByRecursion P (xs ++ x ∷ [])
-AllByRecursion-push P [] x all this = (this, tt)
-AllByRecursion-push P (y ∷ ys) x all this = (all.0, AllByRecursion-push P ys x all.1 this)
-
 pub FinishesFrom-once : (start d d' : Document) → FinishesFrom start d → GrowsOnce d d' → FinishesFrom start d'
 FinishesFrom-once start d d' f g =
     let place = some_of (end_place d.history) f.ended in
@@ -80,7 +77,7 @@ FinishesFrom-once start d d' f g =
     record {
       grows = record {
         more = f.grows.more ++ g.frame ∷ [];
-        finishing = AllByRecursion-push IsFinishing f.grows.more g.frame f.grows.finishing g.finishing;
+        finishing = all-push IsFinishing f.grows.more g.frame f.grows.finishing g.finishing;
         grown = g.grown ∙ (ap (λ h. h ++ g.frame ∷ []) f.grows.grown ∙ append_assoc start.history f.grows.more (g.frame ∷ []));
         budget = g.budget ∙ f.grows.budget;
       };

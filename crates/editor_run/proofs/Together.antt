@@ -20,6 +20,7 @@ use Rattle.doc_book.proofs.Growing.{end_place-push_end, end_place-push_some, aft
 use Rattle.editor_run.specs.Finishing.{GrowsByFinishing}
 use Rattle.editor_run.specs.Played.{ForSessions, AreOwnEntries, HaveRightReplies, AreCallers}
 use Rattle.editor_run.specs.Progress.{HasReplies, HasPlayed, IsSessionLine, IsSessionEntry}
+use Rattle.editor_run.proofs.Elements.{all-then}
 use Rattle.editor_run.proofs.Later.{AreRightReplies-append, OwnEntriesAre-append_run}
 use Rattle.editor_run.proofs.Lines.{ForSessions-then}
 
@@ -35,10 +36,6 @@ not_ended_by (e ∷ es) all = rest (end_place es) (not_ended_by es all.1) (is_en
   where
     rest : (o : Option ℕ) → o ≡ None → (b : Bool) → b ≡ false → cond b (Some 0) (option_map (λ k. k + 1) o) ≡ None
     rest o none b open_entry = ap (λ t. cond t (Some 0) (option_map (λ k. k + 1) o)) open_entry ∙ ap (option_map (λ k. k + 1)) none
-
-all_as : {A : Type 0} (P Q : A → Type 0) → ((x : A) → P x → Q x) → (xs : List A) → AllByRecursion P xs → AllByRecursion Q xs
-all_as P Q as_q [] all = tt
-all_as P Q as_q (x ∷ xs) all = (as_q x all.0, all_as P Q as_q xs all.1)
 
 -- each session's entries are those that its replies name
 pub own_whole : (d : Document) (lines : List Line) (lists : List (List Reply)) (tail : List Entry) → HasPlayed d lines lists → AllByRecursion (λ (e : Entry). e.who ≡ 0) tail
@@ -71,14 +68,14 @@ callers_whole d lines lists more p finishing =
       place = length d.history;
       ended = ap end_place (sym (append_assoc d.history (ending ∷ []) more)) ∙ end_place-append (d.history ++ ending ∷ []) more (length d.history) (end_place-push_end d.history ending (not_ended_by d.history p.entries) refl);
       sessions = subst (AllByRecursion (λ (e : Entry). (1 ≤ e.who) × (e.who ≤ 8))) (sym (take-append_seam d.history (ending ∷ more)))
-          (all_as IsSessionEntry _ (λ (e : Entry) one. (one.first, one.last)) d.history p.entries);
-      run = subst (AllByRecursion (λ (e : Entry). e.who ≡ 0)) (sym (drop-append_seam d.history (ending ∷ more))) (refl, all_as IsFinishing _ (λ (e : Entry) f. f.who) more finishing);
+          (all-then IsSessionEntry _ d.history (λ (e : Entry) one. (one.first, one.last)) p.entries);
+      run = subst (AllByRecursion (λ (e : Entry). e.who ≡ 0)) (sym (drop-append_seam d.history (ending ∷ more))) (refl, all-then IsFinishing _ more (λ (e : Entry) f. f.who) finishing);
       before_end = all_lists (HasReplies d lines) (AllByRecursion (λ (r : Reply). after_of r ≤ length d.history)) 1 lists (λ t rs has. has.seen) p.each;
     }
 
 -- what follows the lines is by the run alone
 pub run_alone_after : (more : List Entry) → AllByRecursion IsFinishing more → AllByRecursion (λ (e : Entry). e.who ≡ 0) (entry_of 0 0 act.End ∷ more)
-run_alone_after more finishing = (refl, all_as IsFinishing _ (λ (e : Entry) f. f.who) more finishing)
+run_alone_after more finishing = (refl, all-then IsFinishing _ more (λ (e : Entry) f. f.who) finishing)
 
 -- ---- a document that was played, ended and finished
 

@@ -18,6 +18,7 @@ made_place (reply.Published place) = Some place
 made_place (reply.Refused r) = None
 made_place (reply.Idle front) = None
 made_place (reply.Spent front) = None
+made_place (reply.Answer a) = None
 
 -- a line's reply added this to the history: nothing, or one entry of the line's session, which isn't End
 abbrev pub Adds : List Entry → List Entry → ℕ → Reply → Type 0

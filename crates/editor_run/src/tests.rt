@@ -25,6 +25,19 @@ const TWO_SESSIONS: &[u8] =
 const TWO_SESSIONS_LISTING: &[u8] =
     b"listing 1\n0 1 2 box a 0 0 10 10\n1 2 3 box b 20 0 10 10\n2 2 4 frame\nx a 0 0\nx b 20 20\ny a 0 0\ny b 0 0\n3 0 0 end\n4 0 0 frame\nx a 0 0\nx b 20 20\ny a 0 0\ny b 0 0\nreplies\n1 2 box a 0 0 10 10 = accepted 0\n1 5 layout = idle 3\n2 3 box b 20 0 10 10 = accepted 1\n2 4 layout = published 2\ndone\n";
 
+// A shape stands where it was moved to, and the answer shows the move.
+const MOVED_AFTER_FRAME: &[u8] =
+    b"dunnart 1\n1 box a 0 0 10 10\n1 box b 4 0 10 10\n1 layout\n1 move a 0 0\n1 where a\nend\n";
+
+const MOVED_AFTER_FRAME_LISTING: &[u8] =
+    b"listing 1\n0 1 2 box a 0 0 10 10\n1 1 3 box b 4 0 10 10\n2 1 4 frame\nx a 0 0\nx b 4 4\ny a 0 0\ny b 0 0\n3 1 5 move a 0 0\n4 0 0 end\n5 0 0 frame\nx a 0 0\nx b 4 4\ny a 0 0\ny b 0 0\nreplies\n1 2 box a 0 0 10 10 = accepted 0\n1 3 box b 4 0 10 10 = accepted 1\n1 4 layout = published 2\n1 5 move a 0 0 = accepted 3\n1 6 where a = at 0 0 4\ndone\n";
+
+// A name that doesn't stand yet, then one that another session put.
+const ASKED_TWICE: &[u8] = b"dunnart 1\n2 where a\n1 box a 3 -4 40 20\n2 where a\nend\n";
+
+const ASKED_TWICE_LISTING: &[u8] =
+    b"listing 1\n0 1 3 box a 3 -4 40 20\n1 0 0 end\n2 0 0 frame\nx a 3 3\ny a -4 -4\nreplies\n1 3 box a 3 -4 40 20 = accepted 0\n2 2 where a = refused 0 unknown a\n2 4 where a = at 3 -4 1\ndone\n";
+
 #[test]
 fn worked_scripts(rt: HostRuntime) -> Result<(), Fail> {
     let alloc = rt.alloc();
@@ -32,6 +45,8 @@ fn worked_scripts(rt: HostRuntime) -> Result<(), Fail> {
         (FIRST_BOX, FIRST_BOX_LISTING),
         (b"dunnart 1\nend\n".as_slice(), EMPTY_LISTING),
         (TWO_SESSIONS, TWO_SESSIONS_LISTING),
+        (MOVED_AFTER_FRAME, MOVED_AFTER_FRAME_LISTING),
+        (ASKED_TWICE, ASKED_TWICE_LISTING),
     ] {
         let mut source = SureSource::new(script.to_vec(alloc)?);
         let mut sink = SureSink::new(alloc);
