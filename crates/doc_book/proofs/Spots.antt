@@ -4,7 +4,6 @@ use Rattle.std.specs.Prelude.{IsSome, position}
 use Rattle.std.specs.Option.{option_map, is_some}
 use Rattle.units.specs.declared.geometry.Axis.{Axis}
 use Rattle.scene_model.specs.declared.items.Item.{Item}
-use Rattle.scene_model.specs.declared.items.Sort.{Sort}
 use Rattle.scene_model.specs.declared.items.Sort.TheVariants as sort
 use Rattle.scene_model.specs.declared.variables.VariableName.TheVariants.{OfItem}
 use Rattle.scene_model.specs.Names.{NameOf, same_name}

@@ -1,4 +1,3 @@
-use Rattle.std.proofs.Common.{ap, ◌∙◌}
 use Rattle.units.specs.declared.geometry.Axis.TheVariants as axes
 use Rattle.doc_book.proofs.Spots.{shape_has_variable}
 use Rattle.doc_book.proofs.asking.shape_spot.Goals as goal
