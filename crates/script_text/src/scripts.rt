@@ -14,9 +14,7 @@ pub enum Command {
     /// Lays the diagram out, once.
     Layout,
     /// Asks where the item of this name stands.
-    Where {
-        name: Name,
-    },
+    Where { name: Name },
 }
 
 /// A command line of a script.
