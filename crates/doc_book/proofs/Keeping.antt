@@ -25,6 +25,7 @@ use Rattle.doc_book.specs.History.{edits_after, standing, scene_at, places_at, i
 use Rattle.doc_book.specs.Kept.{IsKept, IsOpenCount, IsEndedCount}
 use Rattle.doc_book.specs.Legal.{HasRoom}
 use Rattle.doc_book.specs.Projection.{IsShown}
+use Rattle.script_text.specs.Commands.{is_built_edit}
 use Rattle.doc_book.specs.Verdicts.{verdict}
 use Rattle.doc_book.proofs.Growing.{fold-push, scene_at-push, scene_of-push, places_at-push, IsLegal-push, IsSettled-push, IsSettled-push_frame, IsSettled-push_same, end_place-push_none, end_place-push_end, end_place-push_some, after_end-push_some, after_end-push_end}
 use Rattle.doc_book.proofs.Refusing.{not_ended, not_full}
@@ -48,13 +49,13 @@ standing-short h = let le = along h [] in omega (arith, le)
     along [] edits = omega arith
     along (e ∷ es) edits = let more = along es (edits_after edits e.act) in omega (arith, more, one edits e.act)
 
--- no shape of a history was moved more often than there are entries
+-- no shape or guideline of a history was moved more often than there are entries
 pub few_moves_at : (h : List Entry) (n : ℕ) → length h ≤ n → HasFewMoves n (scene_at h)
 few_moves_at h n le =
     let short = standing-short h in
-    HasFewMoves-weaker (0 + length (standing h)) n (scene_at h) (omega (arith, short, le)) (HasFewMoves-scene_of 0 (standing h) empty_diagram tt)
+    HasFewMoves-weaker (0 + length (standing h)) n (scene_at h) (omega (arith, short, le)) (HasFewMoves-scene_of 0 (standing h) empty_diagram (record { shapes = tt; guides = tt }))
 
--- a shape of the book can be moved once more
+-- each shape and guideline of the book can be moved once more
 pub few_moves : (h : List Entry) (budget : ℕ) (scene : Diagram) (places : Places) (settled : Bool) → IsKept h budget scene places settled → end_place h ≡ None → HasFewMoves 4294967294 scene
 few_moves h budget scene places settled k open_history =
     let counts = subst (λ o. MatchOption o (IsOpenCount h budget) (λ _. IsEndedCount h budget)) open_history k.counts in
@@ -62,9 +63,9 @@ few_moves h budget scene places settled k open_history =
 
 -- an edit that the history accepts
 pub IsKept-edit : (h : List Entry) (budget : ℕ) (scene : Diagram) (places : Places) (settled : Bool) (who line : ℕ) (e : Edit) (scene' : Diagram) (places' : Places)
-    → IsKept h budget scene places settled → verdict h e ≡ None → scene' ≡ edited e scene → places' ≡ carried scene scene' places
+    → IsKept h budget scene places settled → is_built_edit e ≡ true → verdict h e ≡ None → scene' ≡ edited e scene → places' ≡ carried scene scene' places
     → IsKept (h ++ entry_of who line (act.Edit e) ∷ []) budget scene' places' false
-IsKept-edit h budget scene places settled who line e scene' places' k accepted scene_is places_are =
+IsKept-edit h budget scene places settled who line e scene' places' k built accepted scene_is places_are =
     let entry = entry_of who line (act.Edit e) in
     let open_history = not_ended h e accepted in
     let next : scene' ≡ scene_of (standing h ++ e ∷ []) = scene_is ∙ (ap (edited e) k.scene_is ∙ sym (scene_of-push (standing h) e)) in
@@ -73,7 +74,7 @@ IsKept-edit h budget scene places settled who line e scene' places' k accepted s
     let longer = length-push h entry in
     let frames = frame_count-push h entry in
     record {
-      legal = IsLegal-push h budget entry k.legal accepted;
+      legal = IsLegal-push h budget entry k.legal (built, accepted);
       scene_is = next ∙ sym (scene_at-push h entry);
       places_are =
           places_are

@@ -22,9 +22,11 @@ none_mapped f None e = refl
 none_mapped f (Some x) e = cc
 
 pub not_ended : (h : List Entry) (e : Edit) → verdict h e ≡ None → end_place h ≡ None
+unfolding verdict
 not_ended h e accepted = none_mapped refusal.Ended (end_place h) (first_of-none (ended_refusal h) (entries_refusal h ∷ refusal_of (scene_at h) e ∷ []) accepted).0
 
 pub not_full : (h : List Entry) (e : Edit) → verdict h e ≡ None → length h < most_entries
+unfolding verdict
 not_full h e accepted = by (nat_le most_entries (length h)) refl (first_of-none (entries_refusal h) (refusal_of (scene_at h) e ∷ []) (first_of-none (ended_refusal h) (entries_refusal h ∷ refusal_of (scene_at h) e ∷ []) accepted).1).0
   where
     by : (b : Bool) → nat_le most_entries (length h) ≡ b → cond b (Some (refusal.Limit counted.Entries most_entries)) None ≡ None → length h < most_entries
@@ -32,6 +34,7 @@ not_full h e accepted = by (nat_le most_entries (length h)) refl (first_of-none 
     by false is e = leb-false _ _ is
 
 pub scene_accepts : (h : List Entry) (e : Edit) → verdict h e ≡ None → refusal_of (scene_at h) e ≡ None
+unfolding verdict
 scene_accepts h e accepted = by (refusal_of (scene_at h) e) (first_of-none (entries_refusal h) (refusal_of (scene_at h) e ∷ []) (first_of-none (ended_refusal h) (entries_refusal h ∷ refusal_of (scene_at h) e ∷ []) accepted).1).1
   where
     by : (o : Option Refusal) → first_of (o ∷ []) ≡ None → o ≡ None

@@ -1,5 +1,5 @@
 -- Places that no separation moves: their certificate, and the frame that has it.
-use Rattle.std.proofs.Common.{◌≡◌, ◌*◌, ◌≤◌, ℕ, ℤ, pos, negsuc, ◌*ℤ◌, ◌-ℤ◌, nat_abs, List, [], ◌∷◌, Bool, true, false, cond, length, map, zero, suc, refl, ap, sym, ◌∙◌, subst, arith}
+use Rattle.std.proofs.Common.{◌≡◌, ◌*◌, ◌≤◌, ℕ, ℤ, pos, negsuc, ◌*ℤ◌, ◌-ℤ◌, nat_abs, List, [], ◌∷◌, length, map, zero, suc, refl, ap, sym, ◌∙◌, subst, arith}
 use Rattle.std.specs.Prelude.{◌↔◌, slice_index, slice_index_or}
 use Rattle.std.specs.Int.{int_min}
 use Rattle.std.specs.List.{AllByRecursion}
@@ -13,9 +13,10 @@ use Rattle.units.specs.Number.{clamped}
 use Rattle.units.specs.Problem.{IsBounded}
 use Rattle.units.specs.declared.geometry.Axis.{Axis}
 use Rattle.units.specs.declared.geometry.Axis.TheVariants.{X, Y}
-use Rattle.scene_model.specs.Diagram.{Diagram, IsWellFormed}
-use Rattle.scene_model.specs.Variables.{variables, shape_variable}
-use Rattle.scene_model.specs.declared.items.Shape.{Shape}
+use Rattle.scene_model.specs.Diagram.{Diagram}
+use Rattle.scene_model.specs.Sound.{IsWellFormed}
+use Rattle.scene_model.proofs.Bounds.{variables-count, variables-weighted}
+use Rattle.scene_model.specs.Variables.{variables}
 use Rattle.scene_model.specs.declared.variables.Variable.{Variable}
 use Rattle.frac128.specs.Fraction.{whole, minus_whole, times, minus, ◌≈◌, IsLowest}
 use Rattle.multiplier_check.specs.declared.certificate.Certificate.{Certificate}
@@ -35,25 +36,17 @@ at_rest places = record { places = map whole places; multipliers = [] }
 clamped_near : (v : ℤ) → nat_abs (clamped v) ≤ 1000000
 clamped_near v = omega (arith, ints, int_max_is (negsuc 999999) (int_min v (pos 1000000)), int_min_is v (pos 1000000))
 
-weighted : (axis : Axis) (shapes : List Shape) → AllByRecursion (λ w. (1 ≤ w) × (w ≤ 1000)) (map (λ (v : Variable). v.weight) (map (shape_variable axis) shapes))
-weighted axis [] = tt
-weighted axis (s ∷ ss) = (one s.held, weighted axis ss)
-  where
-    one : (held : Bool) → (1 ≤ cond held 1000 1) × (cond held 1000 1 ≤ 1000)
-    one true = (omega arith, omega arith)
-    one false = (omega arith, omega arith)
-
 near_clamped : (vs : List ℤ) → AllByRecursion (λ d. nat_abs d ≤ 2000000) (map clamped vs)
 near_clamped [] = tt
 near_clamped (v ∷ vs) = (omega (arith, clamped_near v), near_clamped vs)
 
 bounded : (scene : Diagram) (axis : Axis) (vs : List ℤ) → IsWellFormed scene → length (map clamped vs) ≡ length (variables scene axis) → IsBounded (problem_of scene axis (map clamped vs))
 bounded scene axis vs sound as_long =
-    let count = length-map scene.shapes (shape_variable axis) in
+    let few = variables-count {d = scene} axis sound in
     record {
       as_long = length-map (variables scene axis) (λ (v : Variable). v.weight) ∙ sym as_long;
-      variables = omega (arith, as_long, count, sound.count);
-      weighted = All-from_recursion (λ w. (1 ≤ w) × (w ≤ 1000)) _ (weighted axis scene.shapes);
+      variables = omega (arith, as_long, few);
+      weighted = All-from_recursion (λ w. (1 ≤ w) × (w ≤ 1000)) _ (variables-weighted scene axis);
       near = All-from_recursion (λ d. nat_abs d ≤ 2000000) _ (near_clamped vs);
       count = omega arith;
       sound = λ k d below. absurd (omega (arith, below));

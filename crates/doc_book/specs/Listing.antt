@@ -8,7 +8,7 @@ use Rattle.units.specs.declared.geometry.Axis.{Axis}
 use Rattle.units.specs.declared.geometry.Axis.TheVariants.{X, Y}
 use Rattle.scene_model.specs.declared.variables.Variable.{Variable}
 use Rattle.scene_model.specs.declared.variables.VariableName.{VariableName}
-use Rattle.scene_model.specs.declared.variables.VariableName.TheVariants.{OfItem}
+use Rattle.scene_model.specs.declared.variables.VariableName.TheVariants.{OfItem, LowEdge, HighEdge}
 use Rattle.scene_model.specs.Diagram.{Diagram}
 use Rattle.scene_model.specs.Variables.{variables}
 use Rattle.edit_rules.specs.declared.refusals.Counted.{Counted}
@@ -20,6 +20,7 @@ use Rattle.multiplier_check.specs.declared.certificate.Certificate.{Certificate}
 use Rattle.frame_store.specs.declared.frames.Frame.{Frame}
 use Rattle.script_text.specs.declared.scripts.Line.{Line}
 use Rattle.script_text.specs.Words.{Word, spaced}
+use Rattle.script_text.specs.Grammar.{axis_word}
 use Rattle.script_text.specs.Commands.{edit_words, command_words}
 use Rattle.doc_book.specs.declared.entries.Entry.{Entry}
 use Rattle.doc_book.specs.declared.entries.Act.{Act}
@@ -38,14 +39,11 @@ text_line words = spaced words ++ 10 ∷ []
 abbrev pub text_lines : List (List Word) → List ℕ
 text_lines lines = flat_map text_line lines
 
--- an axis is spelled x or y
-abbrev pub axis_word : Axis → Word
-axis_word X = codes "x"
-axis_word Y = codes "y"
-
--- the name of a variable: that of its item
+-- the name of a variable: that of its item, for an edge with `.low` or `.high` behind it
 abbrev pub variable_word : VariableName → Word
 variable_word (OfItem name) = name
+variable_word (LowEdge name) = name ++ codes ".low"
+variable_word (HighEdge name) = name ++ codes ".high"
 
 -- a fraction, as N where its denominator is 1, else as N/D. The fractions of a certificate are in lowest terms
 abbrev pub fraction_word : Fraction → Word

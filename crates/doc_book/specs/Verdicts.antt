@@ -23,5 +23,5 @@ entries_refusal h = if nat_le most_entries (length h) then Some (refusal.Limit c
 
 -- the first cause for which a history refuses an edit, or None where it accepts it: the document was ended, the
 -- history is full, or its scene refuses the edit
-abbrev pub verdict : List Entry → Edit → Option Refusal
+unfoldable pub verdict : List Entry → Edit → Option Refusal
 verdict h e = first_of (ended_refusal h ∷ entries_refusal h ∷ refusal_of (scene_at h) e ∷ [])

@@ -1,11 +1,12 @@
 //! Where the item of a name stands.
-ghost use Rattle.std.specs.Prelude.{◌≡◌, Some, IsSome, MatchResult, IfOk, IfErr, length};
+ghost use Rattle.std.specs.Prelude.{◌≡◌, ◌⊎◌, Some, IsSome, MatchResult, IfOk, IfErr, length};
 ghost use Rattle.units.specs.declared.geometry.Axis.TheVariants as axes;
 ghost use Rattle.scene_model.specs.declared.items.Sort.TheVariants as sort;
-ghost use Rattle.scene_model.specs.Items.{sort_named};
-ghost use Rattle.scene_model.specs.Variables.{variables};
+ghost use Rattle.scene_model.specs.Names.{along};
+ghost use Rattle.scene_model.specs.Items.{item_named, sort_named};
+ghost use Rattle.scene_model.specs.Variables.{variables, number_named};
 ghost use Rattle.doc_book.specs.History.{scene_at, places_at};
-ghost use Rattle.doc_book.specs.Spots.{number_named, IsPlaceOf, IsSpot, ask_refusal};
+ghost use Rattle.doc_book.specs.Spots.{IsPlaceOf, IsSpot, ask_refusal};
 
 use crate::book::Book;
 use crate::replies::Refused;
@@ -14,7 +15,7 @@ use frame_store::Places;
 use scene_model::{Scene, Sort, VariableName};
 use units::{Axis, Name};
 
-/// Where an item stands, in whole diagram units: the present places of its variables, each within 2^31 of 0.
+/// Where an item stands, in whole diagram units: the present places of its variables.
 #[derive(Clone, Copy, Debug, PartialEq, Eq)]
 pub enum Spot {
     /// The low corner of a shape.
@@ -46,7 +47,7 @@ pub struct Answer {
 
 impl Book {
     /// Where the item of this name stands at the present places. Unknown comes exactly where no item of the scene has the
-    /// name. It takes no memory and changes nothing.
+    /// name, Kind exactly where it is the name of a link or compound. It takes no memory and changes nothing.
     pub fn ask(&self, name: &Name) -> Result<Answer, Refused>
         ensures answered { IfOk result (λ answer. IsSpot (scene_at self.now.history) (places_at self.now.history) name.now answer.spot
             × (answer.front ≡ length self.now.history)) }
@@ -62,7 +63,7 @@ impl Book {
 }
 
 /// Where the item of this name stands, at the places of all variables.
-fn spot_of(scene: &Scene, places: &Places, name: &Name) -> Result<Spot, Refusal>
+pub(crate) fn spot_of(scene: &Scene, places: &Places, name: &Name) -> Result<Spot, Refusal>
     requires on_x { length places.now.x ≡ length (variables scene.now axes.X) }
     requires on_y { length places.now.y ≡ length (variables scene.now axes.Y) }
     ensures { MatchResult result (λ spot. IsSpot scene.now places.now name.now spot) (λ r. ask_refusal scene.now name.now ≡ Some r) }
@@ -72,6 +73,9 @@ fn spot_of(scene: &Scene, places: &Places, name: &Name) -> Result<Spot, Refusal>
     };
     match item.sort {
         Sort::Shape => Ok(shape_spot(scene, places, name)),
+        Sort::Guide => Ok(guide_spot(scene, places, name, item.at)),
+        Sort::Link | Sort::Compound => Err(Refusal::Kind { name: *name }),
+        Sort::Group | Sort::Page => Ok(area_spot(scene, places, name)),
     }
 }
 
@@ -83,13 +87,57 @@ fn shape_spot(scene: &Scene, places: &Places, name: &Name) -> Spot
 {
     let variable = VariableName::OfItem(*name);
     Spot::Shape {
-        x: place(scene, Axis::X, places.x.as_slice(), &variable),
-        y: place(scene, Axis::Y, places.y.as_slice(), &variable),
+        x: place(scene, Axis::X, places, &variable),
+        y: place(scene, Axis::Y, places, &variable),
+    }
+}
+
+/// The spot of the guideline of this name, which has this number.
+fn guide_spot(scene: &Scene, places: &Places, name: &Name, at: u16) -> Spot
+    requires stands { item_named scene.now name.now ≡ Some (record { sort = sort.Guide; at = at }) }
+    requires on_x { length places.now.x ≡ length (variables scene.now axes.X) }
+    requires on_y { length places.now.y ≡ length (variables scene.now axes.Y) }
+    ensures { IsSpot scene.now places.now name.now result }
+{
+    let axis = scene.guide(at).axis;
+    let variable = VariableName::OfItem(*name);
+    Spot::Guide {
+        axis,
+        at: place(scene, axis, places, &variable),
+    }
+}
+
+/// The spot of the group or page of this name.
+fn area_spot(scene: &Scene, places: &Places, name: &Name) -> Spot
+    requires stands { (sort_named scene.now name.now ≡ Some sort.Group) ⊎ (sort_named scene.now name.now ≡ Some sort.Page) }
+    requires on_x { length places.now.x ≡ length (variables scene.now axes.X) }
+    requires on_y { length places.now.y ≡ length (variables scene.now axes.Y) }
+    ensures { IsSpot scene.now places.now name.now result }
+{
+    let low = VariableName::LowEdge(*name);
+    let high = VariableName::HighEdge(*name);
+    Spot::Area {
+        x_low: place(scene, Axis::X, places, &low),
+        y_low: place(scene, Axis::Y, places, &low),
+        x_high: place(scene, Axis::X, places, &high),
+        y_high: place(scene, Axis::Y, places, &high),
     }
 }
 
 /// The place of the variable of this name, among those of its axis.
-fn place(scene: &Scene, axis: Axis, places: &[i64], name: &VariableName) -> i64
+fn place(scene: &Scene, axis: Axis, places: &Places, name: &VariableName) -> i64
+    requires stands { IsSome (number_named scene.now axis name.now) }
+    requires on_x { length places.now.x ≡ length (variables scene.now axes.X) }
+    requires on_y { length places.now.y ≡ length (variables scene.now axes.Y) }
+    ensures { IsPlaceOf scene.now axis (along axis places.now.x places.now.y) name.now result }
+{
+    match axis {
+        Axis::X => place_among(scene, axis, places.x.as_slice(), name),
+        Axis::Y => place_among(scene, axis, places.y.as_slice(), name),
+    }
+}
+
+fn place_among(scene: &Scene, axis: Axis, places: &[i64], name: &VariableName) -> i64
     requires stands { IsSome (number_named scene.now axis name.now) }
     requires as_long { length places.now ≡ length (variables scene.now axis) }
     ensures { IsPlaceOf scene.now axis places.now name.now result }

@@ -1,5 +1,5 @@
 //! What a look over the entries of a history finds.
-ghost use Rattle.std.specs.Prelude.{◌≡◌, ◌<◌, ◌^◌, Some, length, position, IfSome};
+ghost use Rattle.std.specs.Prelude.{if◌then◌else◌, ◌≡◌, ◌<◌, ◌^◌, Some, length, position, IfSome};
 ghost use Rattle.doc_book.specs.History.{end_place, frame_count, after_end, is_end, is_frame};
 
 use crate::entries::{Act, Entry};
@@ -44,7 +44,18 @@ fn end_index(history: &[Entry]) -> Option<usize>
 pub fn frame_count(history: &[Entry]) -> usize
     ensures { result ≡ frame_count history.now }
 {
-    history.iter().filter(|entry| is_frame(entry)).count()
+    let mut count = 0;
+    for at in 0..history.len() {
+        count += one_frame(&history[at]);
+    }
+    count
+}
+
+/// One for a frame, else none.
+fn one_frame(entry: &Entry) -> usize
+    ensures { result ≡ (if is_frame entry.now then 1 else 0) }
+{
+    if is_frame(entry) { 1 } else { 0 }
 }
 
 /// How many entries stand after End.

@@ -1,18 +1,24 @@
 //! What no clause says: with ample memory edits, frames and End are entered. Expected values are by the order of the
 //! causes: an edit is ended, then full, then refused by the scene; a layout is ending, spent, idle, else published. A
 //! shape that an edit moved stands at its new corner.
-ghost use Rattle.std.specs.Prelude.{IsTrue, IsSome};
+ghost use Rattle.std.specs.Prelude.{◌≡◌, true, IsTrue, IsSome};
+ghost use Rattle.script_text.specs.Commands.{is_built_edit};
 ghost use Rattle.doc_book.specs.History.{end_place as place_of_end};
 
+use crate::asking::spot_of;
 use crate::scanning::end_place;
 use crate::{Answer, Book, Finish, Laid, Refused, Spot};
-use edit_rules::{Edit, Refusal};
-use scene_model::Form;
+use edit_rules::{Counted, Edit, Refusal, apply, check, has_moves_left};
+use frame_store::{Places, carry};
+use scene_model::{Form, Scene};
+use std::alloc::Global;
 use std::test::Fail;
-use units::Name;
+use units::{Axis, Name};
 
 /// A box of 10 by 10 at (x, 0).
-fn a_box(name: Name, x: i32) -> Edit {
+fn a_box(name: Name, x: i32) -> Edit
+    ensures { is_built_edit result ≡ true }
+{
     Edit::Put {
         name,
         form: Form::Box,
@@ -86,6 +92,105 @@ fn a_shape_is_asked_for(rt: HostRuntime) -> Result<(), Fail> {
         front: 2,
     };
     assert_eq!(rt; book.ask(&name), Ok(moved));
+    Ok(())
+}
+
+// A shift moves a guideline, also without a frame.
+#[test]
+fn a_guideline_is_asked_for(rt: HostRuntime) -> Result<(), Fail> {
+    let alloc = rt.alloc();
+    let name = Name::of(b"g").ok_or("a name")?;
+    let axis = Axis::Y;
+    let mut book = Book::new(alloc, 64);
+    let guide = Edit::Guide { name, axis, at: 40 };
+    assert_eq!(rt; book.edit(alloc, 1, 2, guide), Ok(0));
+    assert_eq!(rt; book.edit(alloc, 1, 3, Edit::Shift { name, at: -7 }), Ok(1));
+    let shifted = Answer {
+        spot: Spot::Guide { axis, at: -7 },
+        front: 2,
+    };
+    assert_eq!(rt; book.ask(&name), Ok(shifted));
+    Ok(())
+}
+
+/// Applies an edit that the scene accepts.
+fn accepted(scene: &mut Scene, edit: Edit) -> Result<(), Fail> {
+    if check(scene, &edit).is_err() {
+        return Err("accepted".into());
+    }
+    if !has_moves_left(scene) {
+        return Err("moves are left".into());
+    }
+    apply(scene, edit)?;
+    Ok(())
+}
+
+/// Puts two boxes, and a link between them.
+fn link(scene: &mut Scene, a: Name, b: Name, name: Name) -> Result<(), Fail> {
+    accepted(scene, a_box(a, 0))?;
+    accepted(scene, a_box(b, 20))?;
+    accepted(scene, Edit::Join { name, a, b })
+}
+
+/// Whether a question for the item of this name is refused for its kind, where nothing was laid out yet.
+fn is_of_wrong_kind(alloc: Global, scene: &Scene, name: Name) -> Result<bool, Fail> {
+    let places = carry(alloc, &Scene::empty(alloc), scene, &Places::none(alloc))?;
+    Ok(spot_of(scene, &places, &name) == Err(Refusal::Kind { name }))
+}
+
+/// Links two boxes, and asks for the link.
+fn link_and_ask(alloc: Global, scene: &mut Scene) -> Result<(), Fail> {
+    let a = Name::of(b"a").ok_or("a name")?;
+    let b = Name::of(b"b").ok_or("a name")?;
+    let name = Name::of(b"l").ok_or("a name")?;
+    link(scene, a, b, name)?;
+    if !is_of_wrong_kind(alloc, scene, name)? {
+        return Err("a link has no place of its own".into());
+    }
+    Ok(())
+}
+
+#[test]
+fn a_link_is_asked_for(rt: HostRuntime) -> Result<(), Fail> {
+    let alloc = rt.alloc();
+    let mut scene = Scene::empty(alloc);
+    link_and_ask(alloc, &mut scene)
+}
+
+/// Whether the shape of this name can be held 19,999 times.
+fn hold_often(book: &mut Book, alloc: Global, name: Name) -> bool {
+    for _ in 0..19_999 {
+        if book.edit(alloc, 1, 3, Edit::Hold { name }).is_err() {
+            return false;
+        }
+    }
+    true
+}
+
+/// Whether an edit is refused since 20,000 entries stand.
+fn is_full(book: &mut Book, alloc: Global, edit: Edit) -> bool
+    requires { is_built_edit edit ≡ true }
+{
+    let full = Refused {
+        refusal: Refusal::Limit {
+            what: Counted::Entries,
+            count: 20_000,
+        },
+        front: 20_000,
+    };
+    book.edit(alloc, 1, 4, edit) == Err(full)
+}
+
+// One box and 19,999 edits stand. The limit comes before a name that is taken.
+#[test]
+fn a_full_history_takes_no_edit(rt: HostRuntime) -> Result<(), Fail> {
+    let alloc = rt.alloc();
+    let name = Name::of(b"a").ok_or("a name")?;
+    let mut book = Book::new(alloc, 64);
+    assert_eq!(rt; book.edit(alloc, 1, 2, a_box(name, 3)), Ok(0));
+    assert!(rt; hold_often(&mut book, alloc, name));
+    assert!(rt; is_full(&mut book, alloc, Edit::Hold { name }));
+    assert!(rt; is_full(&mut book, alloc, a_box(name, 3)));
     Ok(())
 }
 

@@ -1,47 +1,23 @@
--- The item that an edit changes, and how often shapes were moved.
-use Rattle.std.proofs.Common.{◌≡◌, ◌+◌, ◌≤◌, ℕ, zero, suc, List, [], ◌∷◌, ◌++◌, Bool, true, false, Option, Some, None, length, refl, ap, sym, ◌∙◌, subst, arith, slice_get}
-use Rattle.std.specs.Prelude.{position, fold}
-use Rattle.std.specs.Option.{is_some, option_map, option_map_or}
-use Rattle.std.specs.List.{AllByRecursion, list_any, remove}
+-- What an edit changes: how often items were moved.
+use Rattle.std.proofs.Common.{◌≡◌, ◌+◌, ◌≤◌, ℕ, zero, suc, List, [], ◌∷◌, ◌++◌, Option, Some, None, length, refl, subst, arith, slice_get}
+use Rattle.std.specs.Prelude.{fold}
+use Rattle.std.specs.Option.{option_map_or}
+use Rattle.std.specs.List.{AllByRecursion}
 use Rattle.scene_model.specs.declared.items.Item.{Item}
 use Rattle.scene_model.specs.declared.items.Shape.{Shape}
+use Rattle.scene_model.specs.declared.items.Guide.{Guide}
 use Rattle.scene_model.specs.declared.items.Sort.{Sort}
 use Rattle.scene_model.specs.declared.items.Sort.TheVariants as sort
 use Rattle.scene_model.specs.declared.items.Thing.{Thing}
 use Rattle.scene_model.specs.declared.items.Thing.TheVariants as thing
-use Rattle.scene_model.specs.Names.{NameOf, same_name}
-use Rattle.scene_model.specs.Naming.{replaced}
-use Rattle.scene_model.specs.Diagram.{Diagram, shape_names}
-use Rattle.scene_model.specs.Items.{stands, item_named, sort_named, name_of_thing, thing_at, with_thing, with_replaced, without, without_at}
-use Rattle.scene_model.proofs.Named.{is_some-position}
-use Rattle.scene_model.proofs.Places.{item_found}
+use Rattle.scene_model.specs.Names.{NameOf}
+use Rattle.scene_model.specs.Diagram.{Diagram}
+use Rattle.scene_model.specs.Items.{item_named, thing_named, without, without_at}
 use Rattle.scene_model.proofs.Changes.{All-replaced, All-remove}
+use Rattle.scene_model.proofs.Places.{found_as, thing_found_is}
 use Rattle.edit_rules.specs.declared.edits.Edit.{Edit}
 use Rattle.edit_rules.specs.declared.edits.Edit.TheVariants as edit
-use Rattle.edit_rules.specs.Effects.{thing_found, thing_named, with_found, edited, scene_of, HasFewMoves}
-
--- where a name stands, a shape has it
-pub shape_named : (d : Diagram) (n : NameOf) → stands d n ≡ true → sort_named d n ≡ Some sort.Shape
-shape_named d n stands_is = by (position (same_name n) (shape_names d.shapes)) (is_some-position (same_name n) (shape_names d.shapes) ∙ stands_is)
-  where
-    by : (o : Option ℕ) → is_some o ≡ true → option_map (λ (item : Item). item.sort) (option_map (λ at. record { sort = sort.Shape; at = at }) o) ≡ Some sort.Shape
-    by None is = cc
-    by (Some k) is = refl
-
--- an item that is found by name has the name
-pub found_name : (d : Diagram) (n : NameOf) (t : Thing) → thing_named d n ≡ Some t → name_of_thing t ≡ n
-found_name d n t found = by (item_named d n) (λ item is. item_found d n item is) found
-  where
-    by : (o : Option Item) → ((item : Item) → o ≡ Some item → (x : Thing) × (thing_at d item.sort item.at ≡ Some x) × (name_of_thing x ≡ n)) → thing_found d o ≡ Some t → name_of_thing t ≡ n
-    by None has found = cc
-    by (Some item) has found =
-        let x = has item refl in
-        let same : Some t ≡ Some x.0 = sym found ∙ x.1 in
-        let is : t ≡ x.0 = cc in
-        ap name_of_thing is ∙ x.2
-
-pub found_stands : (d : Diagram) (n : NameOf) (s : Shape) → thing_named d n ≡ Some (thing.Shape s) → stands d n ≡ true → stands d s.name ≡ true
-found_stands d n s found stands_is = ap (stands d) (found_name d n (thing.Shape s) found) ∙ stands_is
+use Rattle.edit_rules.specs.Effects.{with_found_shape, with_found_guide, edited, HasFewMoves}
 
 -- what holds of each element, at a place
 all_at : {A : Type 0} (P : A → Type 0) (xs : List A) (k : ℕ) (x : A) → AllByRecursion P xs → slice_get xs k ≡ Some x → P x
@@ -50,62 +26,109 @@ all_at P [] (suc k) x all at = cc
 all_at P (y ∷ ys) zero x all at = let same : y ≡ x = cc in subst P same all.0
 all_at P (y ∷ ys) (suc k) x all at = all_at P ys k x all.1 at
 
--- a shape that is found was moved no more often than any
-pub found_moves : (n : ℕ) (d : Diagram) (name : NameOf) (s : Shape) → HasFewMoves n d → thing_named d name ≡ Some (thing.Shape s) → s.moves ≤ n
-found_moves n d name s few found = by (item_named d name) found
-  where
-    at_shape : (o : Option Shape) → option_map thing.Shape o ≡ Some (thing.Shape s) → o ≡ Some s
-    at_shape None is = cc
-    at_shape (Some x) is = cc
+-- a shape that is found has the name, and was moved no more often than any
+pub shape_named : (d : Diagram) (n : NameOf) (s : Shape) → thing_named d n ≡ Some (thing.Shape s) → s.name ≡ n
+shape_named d n s found = (thing_found_is d n (thing.Shape s) found).named
 
-    by : (o : Option Item) → thing_found d o ≡ Some (thing.Shape s) → s.moves ≤ n
-    by None found = cc
-    by (Some item) found = in_sort item.sort item.at found
-      where
-        in_sort : (which : Sort) (at : ℕ) → thing_at d which at ≡ Some (thing.Shape s) → s.moves ≤ n
-        in_sort sort.Shape at found = all_at (λ (x : Shape). x.moves ≤ n) d.shapes at s few (at_shape _ found)
+pub shape_moves : (n : ℕ) (d : Diagram) (name : NameOf) (s : Shape) → HasFewMoves n d → thing_named d name ≡ Some (thing.Shape s) → s.moves ≤ n
+shape_moves n d name s few found =
+    let x = thing_found_is d name (thing.Shape s) found in
+    all_at (λ (y : Shape). y.moves ≤ n) d.shapes x.at s few.shapes (found_as thing.Shape (λ a b e. cc) (slice_get d.shapes x.at) s x.there)
 
-all_weaker : (n : ℕ) (ss : List Shape) → AllByRecursion (λ (s : Shape). s.moves ≤ n) ss → AllByRecursion (λ (s : Shape). s.moves ≤ n + 1) ss
-all_weaker n [] all = tt
-all_weaker n (s ∷ ss) all = (omega (arith, all.0), all_weaker n ss all.1)
+-- and so a guideline
+pub guide_named : (d : Diagram) (n : NameOf) (g : Guide) → thing_named d n ≡ Some (thing.Guide g) → g.name ≡ n
+guide_named d n g found = (thing_found_is d n (thing.Guide g) found).named
 
-all_push : (n : ℕ) (ss : List Shape) (s : Shape) → AllByRecursion (λ (x : Shape). x.moves ≤ n) ss → s.moves ≤ n → AllByRecursion (λ (x : Shape). x.moves ≤ n) (ss ++ s ∷ [])
-all_push n [] s all this = (this, tt)
-all_push n (x ∷ xs) s all this = (all.0, all_push n xs s all.1 this)
+pub guide_moves : (n : ℕ) (d : Diagram) (name : NameOf) (g : Guide) → HasFewMoves n d → thing_named d name ≡ Some (thing.Guide g) → g.moves ≤ n
+guide_moves n d name g few found =
+    let x = thing_found_is d name (thing.Guide g) found in
+    all_at (λ (y : Guide). y.moves ≤ n) d.guides x.at g few.guides (found_as thing.Guide (λ a b e. cc) (slice_get d.guides x.at) g x.there)
+
+-- ---- an edit moves an item at most once more
+
+all_mono : {A : Type 0} (moves : A → ℕ) (m n : ℕ) → m ≤ n → (xs : List A) → AllByRecursion (λ x. moves x ≤ m) xs → AllByRecursion (λ x. moves x ≤ n) xs
+all_mono moves m n le [] all = tt
+all_mono moves m n le (x ∷ xs) all = (omega (arith, le, all.0), all_mono moves m n le xs all.1)
+
+all_push : {A : Type 0} (P : A → Type 0) (xs : List A) (x : A) → AllByRecursion P xs → P x → AllByRecursion P (xs ++ x ∷ [])
+all_push P [] x all this = (this, tt)
+all_push P (y ∷ ys) x all this = (all.0, all_push P ys x all.1 this)
+
+-- no item was moved more often than a greater number
+pub HasFewMoves-weaker : (m n : ℕ) (d : Diagram) → m ≤ n → HasFewMoves m d → HasFewMoves n d
+HasFewMoves-weaker m n d le few = record { shapes = all_mono (λ (s : Shape). s.moves) m n le d.shapes few.shapes; guides = all_mono (λ (g : Guide). g.moves) m n le d.guides few.guides }
 
 -- a changed shape was moved at most once more
-changed : (n : ℕ) (d : Diagram) (name : NameOf) → HasFewMoves n d → (change : Shape → Shape) → ((s : Shape) → s.moves ≤ n → (change s).moves ≤ n + 1)
-    → (o : Option Thing) → thing_named d name ≡ o → HasFewMoves (n + 1) (with_found d change o)
-changed n d name few change keeps None is = all_weaker n d.shapes few
-changed n d name few change keeps (Some (thing.Shape s)) is =
-    All-replaced (λ (x : Shape). x.name) (change s) (λ (x : Shape). x.moves ≤ n + 1) d.shapes (all_weaker n d.shapes few) (keeps s (found_moves n d name s few is))
+changed_shape : (n : ℕ) (d : Diagram) (name : NameOf) → HasFewMoves n d → (change : Shape → Shape) → ((s : Shape) → s.moves ≤ n → (change s).moves ≤ n + 1)
+    → (o : Option Thing) → thing_named d name ≡ o → HasFewMoves (n + 1) (with_found_shape d change o)
+changed_shape n d name few change keeps (Some (thing.Shape s)) is =
+    let more = HasFewMoves-weaker n (n + 1) d (omega arith) few in
+    record { shapes = All-replaced (λ (x : Shape). x.name) (change s) (λ (x : Shape). x.moves ≤ n + 1) d.shapes more.shapes (keeps s (shape_moves n d name s few is)); guides = more.guides }
+changed_shape n d name few change keeps None is = HasFewMoves-weaker n (n + 1) d (omega arith) few
+changed_shape n d name few change keeps (Some (thing.Guide x)) is = HasFewMoves-weaker n (n + 1) d (omega arith) few
+changed_shape n d name few change keeps (Some (thing.Link x)) is = HasFewMoves-weaker n (n + 1) d (omega arith) few
+changed_shape n d name few change keeps (Some (thing.Compound x)) is = HasFewMoves-weaker n (n + 1) d (omega arith) few
+changed_shape n d name few change keeps (Some (thing.Group x)) is = HasFewMoves-weaker n (n + 1) d (omega arith) few
+changed_shape n d name few change keeps (Some (thing.Page x)) is = HasFewMoves-weaker n (n + 1) d (omega arith) few
 
-removed : (n : ℕ) (d : Diagram) → HasFewMoves n d → (o : Option Item) → HasFewMoves (n + 1) (option_map_or (λ (item : Item). without_at d item.sort item.at) o d)
-removed n d few None = all_weaker n d.shapes few
-removed n d few (Some item) = in_sort item.sort item.at
+-- and so a changed guideline
+changed_guide : (n : ℕ) (d : Diagram) (name : NameOf) → HasFewMoves n d → (change : Guide → Guide) → ((g : Guide) → g.moves ≤ n → (change g).moves ≤ n + 1)
+    → (o : Option Thing) → thing_named d name ≡ o → HasFewMoves (n + 1) (with_found_guide d change o)
+changed_guide n d name few change keeps (Some (thing.Guide g)) is =
+    let more = HasFewMoves-weaker n (n + 1) d (omega arith) few in
+    record { shapes = more.shapes; guides = All-replaced (λ (x : Guide). x.name) (change g) (λ (x : Guide). x.moves ≤ n + 1) d.guides more.guides (keeps g (guide_moves n d name g few is)) }
+changed_guide n d name few change keeps None is = HasFewMoves-weaker n (n + 1) d (omega arith) few
+changed_guide n d name few change keeps (Some (thing.Shape x)) is = HasFewMoves-weaker n (n + 1) d (omega arith) few
+changed_guide n d name few change keeps (Some (thing.Link x)) is = HasFewMoves-weaker n (n + 1) d (omega arith) few
+changed_guide n d name few change keeps (Some (thing.Compound x)) is = HasFewMoves-weaker n (n + 1) d (omega arith) few
+changed_guide n d name few change keeps (Some (thing.Group x)) is = HasFewMoves-weaker n (n + 1) d (omega arith) few
+changed_guide n d name few change keeps (Some (thing.Page x)) is = HasFewMoves-weaker n (n + 1) d (omega arith) few
+
+-- an item that goes takes its moves along
+gone : (n : ℕ) (d : Diagram) (name : NameOf) → HasFewMoves n d → HasFewMoves (n + 1) (without d name)
+gone n d name few = by (item_named d name)
   where
-    in_sort : (which : Sort) (at : ℕ) → HasFewMoves (n + 1) (without_at d which at)
-    in_sort sort.Shape at = All-remove (λ (x : Shape). x.moves ≤ n + 1) d.shapes at (all_weaker n d.shapes few)
+    more : HasFewMoves (n + 1) d
+    more = HasFewMoves-weaker n (n + 1) d (omega arith) few
 
--- an edit moves a shape at most once more
+    at_sort : (s : Sort) (at : ℕ) → HasFewMoves (n + 1) (without_at d s at)
+    at_sort sort.Shape at = record { shapes = All-remove (λ (s : Shape). s.moves ≤ n + 1) d.shapes at more.shapes; guides = more.guides }
+    at_sort sort.Guide at = record { shapes = more.shapes; guides = All-remove (λ (g : Guide). g.moves ≤ n + 1) d.guides at more.guides }
+    at_sort sort.Link at = record { shapes = more.shapes; guides = more.guides }
+    at_sort sort.Compound at = record { shapes = more.shapes; guides = more.guides }
+    at_sort sort.Group at = record { shapes = more.shapes; guides = more.guides }
+    at_sort sort.Page at = record { shapes = more.shapes; guides = more.guides }
+
+    by : (o : Option Item) → HasFewMoves (n + 1) (option_map_or (λ (item : Item). without_at d item.sort item.at) o d)
+    by None = more
+    by (Some item) = at_sort item.sort item.at
+
+-- a new item was never moved
 pub HasFewMoves-edited : (n : ℕ) (e : Edit) (d : Diagram) → HasFewMoves n d → HasFewMoves (n + 1) (edited e d)
-HasFewMoves-edited n (edit.Put name form x y w h) d few = all_push (n + 1) d.shapes _ (all_weaker n d.shapes few) (omega arith)
-HasFewMoves-edited n (edit.Size name w h) d few = changed n d name few _ (λ s le. omega (arith, le)) (thing_named d name) refl
-HasFewMoves-edited n (edit.Move name x y) d few = changed n d name few _ (λ s le. omega (arith, le)) (thing_named d name) refl
-HasFewMoves-edited n (edit.Hold name) d few = changed n d name few _ (λ s le. omega (arith, le)) (thing_named d name) refl
-HasFewMoves-edited n (edit.Free name) d few = changed n d name few _ (λ s le. omega (arith, le)) (thing_named d name) refl
-HasFewMoves-edited n (edit.Remove name) d few = removed n d few (item_named d name)
+unfolding edited
+HasFewMoves-edited n e d few = by e (HasFewMoves-weaker n (n + 1) d (omega arith) few)
+  where
+    by : (e : Edit) → HasFewMoves (n + 1) d → HasFewMoves (n + 1) (edited e d)
+    by (edit.Put name form x y w h) more = record { shapes = all_push (λ (s : Shape). s.moves ≤ n + 1) d.shapes _ more.shapes (omega arith); guides = more.guides }
+    by (edit.Guide name axis at) more = record { shapes = more.shapes; guides = all_push (λ (g : Guide). g.moves ≤ n + 1) d.guides _ more.guides (omega arith) }
+    by (edit.Size name w h) more = changed_shape n d name few _ (λ s le. omega (arith, le)) (thing_named d name) refl
+    by (edit.Move name x y) more = changed_shape n d name few _ (λ s le. omega (arith, le)) (thing_named d name) refl
+    by (edit.Shift name at) more = changed_guide n d name few _ (λ g le. omega (arith, le)) (thing_named d name) refl
+    by (edit.Hold name) more = changed_shape n d name few _ (λ s le. omega (arith, le)) (thing_named d name) refl
+    by (edit.Free name) more = changed_shape n d name few _ (λ s le. omega (arith, le)) (thing_named d name) refl
+    by (edit.Remove name) more = gone n d name few
+    by (edit.Unlink name) more = gone n d name few
+    by (edit.Drop name) more = gone n d name few
+    by (edit.Join name a b) more = record { shapes = more.shapes; guides = more.guides }
+    by (edit.Align name guide line members) more = record { shapes = more.shapes; guides = more.guides }
+    by (edit.Spread name axis gap members) more = record { shapes = more.shapes; guides = more.guides }
+    by (edit.Rank name axis gap members) more = record { shapes = more.shapes; guides = more.guides }
+    by (edit.Apart name axis a b gap exact) more = record { shapes = more.shapes; guides = more.guides }
+    by (edit.Group name pad members) more = record { shapes = more.shapes; guides = more.guides }
+    by (edit.Page name x y w h margin rigid) more = record { shapes = more.shapes; guides = more.guides }
 
--- so many edits move a shape at most so often
+-- so many edits move an item at most so often
 pub HasFewMoves-scene_of : (n : ℕ) (edits : List Edit) (d : Diagram) → HasFewMoves n d → HasFewMoves (n + length edits) (fold (λ c e. edited e c) d edits)
 HasFewMoves-scene_of n [] d few = subst (λ k. HasFewMoves k d) (omega arith) few
 HasFewMoves-scene_of n (e ∷ es) d few =
     subst (λ k. HasFewMoves k (fold (λ c x. edited x c) (edited e d) es)) (omega arith) (HasFewMoves-scene_of (n + 1) es (edited e d) (HasFewMoves-edited n e d few))
-
--- no shape was moved more often than a greater number
-pub HasFewMoves-weaker : (m n : ℕ) (d : Diagram) → m ≤ n → HasFewMoves m d → HasFewMoves n d
-HasFewMoves-weaker m n d le few = each d.shapes few
-  where
-    each : (ss : List Shape) → AllByRecursion (λ (s : Shape). s.moves ≤ m) ss → AllByRecursion (λ (s : Shape). s.moves ≤ n) ss
-    each [] all = tt
-    each (s ∷ ss) all = (omega (arith, le, all.0), each ss all.1)

@@ -1,1 +1,4 @@
+pub mod Accepting
 pub mod Changing
+pub mod Corners
+pub mod ListedNames

@@ -1,11 +1,11 @@
 //! Edits.
 ghost use Rattle.std.specs.Prelude.{◌≡◌, IfOk};
 
-use scene_model::Form;
+use scene_model::{AlignLine, Form};
 use std::alloc::Global;
-use units::{Memory, Name};
+use units::{Axis, Members, Memory, Name};
 
-/// An edit of a diagram.
+/// An edit of a diagram. A new item has a name of its own, different from all names that stand.
 #[derive(Debug, Drop, PartialEq)]
 pub enum Edit {
     /// Puts a new shape: its low corner at (x, y), so wide and so high, in diagram units.
@@ -37,6 +37,12 @@ pub enum Edit {
         /// Within 1,000,000 of 0.
         y: i32,
     },
+    /// Shifts a guideline to a place of its axis, in diagram units. It counts as a move also where the place stays.
+    Shift {
+        name: Name,
+        /// Within 1,000,000 of 0.
+        at: i32,
+    },
     /// Holds a shape, so that layout moves it less readily. A held shape may be held again.
     Hold {
         name: Name,
@@ -45,8 +51,85 @@ pub enum Edit {
     Free {
         name: Name,
     },
-    /// Removes a shape.
+    /// Removes a shape or guideline that no item uses.
     Remove {
+        name: Name,
+    },
+    /// Joins two different shapes by a new link.
+    Join {
+        name: Name,
+        a: Name,
+        b: Name,
+    },
+    /// Takes a link away.
+    Unlink {
+        name: Name,
+    },
+    /// Puts a new guideline at a place of an axis, in diagram units.
+    Guide {
+        name: Name,
+        axis: Axis,
+        /// Within 1,000,000 of 0.
+        at: i32,
+    },
+    /// Aligns different shapes to a guideline by their low edges, middles or high edges.
+    Align {
+        name: Name,
+        guide: Name,
+        line: AlignLine,
+        members: Members,
+    },
+    /// Spreads different shapes or guidelines of an axis: each exactly the gap behind the one before it.
+    Spread {
+        name: Name,
+        axis: Axis,
+        /// Within 1,000,000 diagram units of 0.
+        gap: i32,
+        members: Members,
+    },
+    /// Ranks different shapes or guidelines of an axis: each at least the gap behind the one before it.
+    Rank {
+        name: Name,
+        axis: Axis,
+        /// Within 1,000,000 diagram units of 0.
+        gap: i32,
+        members: Members,
+    },
+    /// Sets two different shapes or guidelines of an axis apart: B at least, or exactly, the gap behind A.
+    Apart {
+        name: Name,
+        axis: Axis,
+        a: Name,
+        b: Name,
+        /// Within 1,000,000 diagram units of 0.
+        gap: i32,
+        exact: bool,
+    },
+    /// Groups different shapes: they keep so far inside the group's frame.
+    Group {
+        name: Name,
+        /// 0 to 10,000 diagram units.
+        pad: i32,
+        members: Members,
+    },
+    /// Puts the page: its low corner at (x, y), so wide and so high, in diagram units. All shapes keep so far inside.
+    Page {
+        name: Name,
+        /// Within 1,000,000 of 0.
+        x: i32,
+        /// Within 1,000,000 of 0.
+        y: i32,
+        /// 1 to 1,000,000.
+        w: i32,
+        /// 1 to 1,000,000.
+        h: i32,
+        /// 0 to 10,000.
+        margin: i32,
+        /// Whether the page keeps its declared size.
+        rigid: bool,
+    },
+    /// Drops a compound, a group or the page.
+    Drop {
         name: Name,
     },
 }
@@ -56,7 +139,6 @@ impl Edit {
     pub fn copy(&self, alloc: Global) -> Result<Edit, Memory>
         ensures { IfOk result (λ copy. copy ≡ self.now) }
     {
-        let _unused = alloc;
         match self {
             Edit::Put {
                 name,
@@ -83,9 +165,95 @@ impl Edit {
                 x: *x,
                 y: *y,
             }),
+            Edit::Shift { name, at } => Ok(Edit::Shift {
+                name: *name,
+                at: *at,
+            }),
             Edit::Hold { name } => Ok(Edit::Hold { name: *name }),
             Edit::Free { name } => Ok(Edit::Free { name: *name }),
             Edit::Remove { name } => Ok(Edit::Remove { name: *name }),
+            Edit::Join { name, a, b } => Ok(Edit::Join {
+                name: *name,
+                a: *a,
+                b: *b,
+            }),
+            Edit::Unlink { name } => Ok(Edit::Unlink { name: *name }),
+            Edit::Guide { name, axis, at } => Ok(Edit::Guide {
+                name: *name,
+                axis: *axis,
+                at: *at,
+            }),
+            Edit::Align {
+                name,
+                guide,
+                line,
+                members,
+            } => Ok(Edit::Align {
+                name: *name,
+                guide: *guide,
+                line: *line,
+                members: members.copy(alloc)?,
+            }),
+            Edit::Spread {
+                name,
+                axis,
+                gap,
+                members,
+            } => Ok(Edit::Spread {
+                name: *name,
+                axis: *axis,
+                gap: *gap,
+                members: members.copy(alloc)?,
+            }),
+            Edit::Rank {
+                name,
+                axis,
+                gap,
+                members,
+            } => Ok(Edit::Rank {
+                name: *name,
+                axis: *axis,
+                gap: *gap,
+                members: members.copy(alloc)?,
+            }),
+            Edit::Apart {
+                name,
+                axis,
+                a,
+                b,
+                gap,
+                exact,
+            } => Ok(Edit::Apart {
+                name: *name,
+                axis: *axis,
+                a: *a,
+                b: *b,
+                gap: *gap,
+                exact: *exact,
+            }),
+            Edit::Group { name, pad, members } => Ok(Edit::Group {
+                name: *name,
+                pad: *pad,
+                members: members.copy(alloc)?,
+            }),
+            Edit::Page {
+                name,
+                x,
+                y,
+                w,
+                h,
+                margin,
+                rigid,
+            } => Ok(Edit::Page {
+                name: *name,
+                x: *x,
+                y: *y,
+                w: *w,
+                h: *h,
+                margin: *margin,
+                rigid: *rigid,
+            }),
+            Edit::Drop { name } => Ok(Edit::Drop { name: *name }),
         }
     }
 }

@@ -1,196 +1,224 @@
-//! What no clause says: that with ample memory edits are copied and applied; and each refusal of a scene.
-use crate::{Counted, Edit, Refusal, apply, check, has_moves_left};
-use scene_model::{Form, Scene, Shape, Sort};
+//! What no clause says: that with ample memory edits are copied and applied.
+use crate::Edit;
+use crate::checking_tests::{
+    accepted, align, apart, expect, group, guide, join, members, name, page, put,
+};
+use scene_model::{Compound, Form, Guide, Link, Page, Rule, Scene, Shape, Sort};
+use std::alloc::Global;
 use std::test::Fail;
-use units::{Memory, Name};
+use units::{Axis, Name, Pt};
 
-/// A box of this name at (x, y), so wide and so high.
-fn put(name: Name, x: i32, y: i32, w: i32, h: i32) -> Edit {
-    Edit::Put {
-        name,
-        form: Form::Box,
-        x,
-        y,
-        w,
-        h,
-    }
-}
-
-/// Why the edit is refused, or None after it was applied.
-fn play(scene: &mut Scene, edit: Edit) -> Result<Option<Refusal>, Memory> {
-    if let Err(refusal) = check(scene, &edit) {
-        return Ok(Some(refusal));
-    }
-    if !has_moves_left(scene) {
-        return Err(Memory);
-    }
-    apply(scene, edit)?;
-    Ok(None)
+fn is_copied(edit: &Edit, alloc: Global) -> Result<(), Fail> {
+    let copy = edit.copy(alloc)?;
+    expect(copy == *edit, "a copy")
 }
 
 #[test]
 fn edits_are_copied(rt: HostRuntime) -> Result<(), Fail> {
-    let name = Name::of(b"start").ok_or("a name")?;
-    let edit = put(name, 3, -4, 40, 20);
-    assert!(rt; edit.copy(rt.alloc())? == put(name, 3, -4, 40, 20));
-    Ok(())
+    let alloc = rt.alloc();
+    let a = name(b"a")?;
+    let b = name(b"b")?;
+    is_copied(&put(a, 3, -4, 40, 20), alloc)?;
+    is_copied(&align(b, a, members(alloc, &[a, b])?), alloc)
+}
+
+/// Whether this guideline stands alone.
+fn has_guide(scene: &Scene, guide: &Guide) -> bool {
+    scene.count(Sort::Guide) == 1 && *scene.guide(0) == *guide
+}
+
+/// Whether this shape stands alone.
+fn has_shape(scene: &Scene, shape: &Shape) -> bool {
+    scene.count(Sort::Shape) == 1 && *scene.shape(0) == *shape
+}
+
+fn shift_guideline(scene: &mut Scene) -> Result<(), Fail> {
+    let name = name(b"g")?;
+    let axis = Axis::Y;
+    accepted(scene, guide(name, axis, 40))?;
+    // A shift is counted also where the place stays.
+    accepted(scene, Edit::Shift { name, at: -7 })?;
+    accepted(scene, Edit::Shift { name, at: -7 })?;
+    let shifted = Guide {
+        name,
+        axis,
+        at: -7,
+        moves: 2,
+    };
+    expect(has_guide(scene, &shifted), "shifted")?;
+    accepted(scene, Edit::Remove { name })?;
+    expect(scene.count(Sort::Guide) == 0, "removed")
 }
 
 #[test]
-fn edits_are_applied(rt: HostRuntime) -> Result<(), Fail> {
-    let first = Name::of(b"a").ok_or("a name")?;
-    let second = Name::of(b"b_2").ok_or("a name")?;
+fn guidelines_are_shifted(rt: HostRuntime) -> Result<(), Fail> {
     let mut scene = Scene::empty(rt.alloc());
-    // The ends of the ranges are within them: places from -1,000,000 to 1,000,000, sizes from 1 to 10,000.
-    assert!(rt; play(&mut scene, put(first, -1_000_000, 1_000_000, 1, 10_000))?.is_none());
-    assert!(rt; play(&mut scene, put(second, 7, 8, 9, 10))?.is_none());
-    assert!(rt; scene.count(Sort::Shape) == 2);
-    // A new shape is not held and was never moved.
-    assert_eq!(rt;
-        *scene.shape(1),
-        Shape {
-            name: second,
-            form: Form::Box,
-            x: 7,
-            y: 8,
-            w: 9,
-            h: 10,
-            held: false,
-            moves: 0,
-        }
-    );
+    shift_guideline(&mut scene)?;
     Ok(())
 }
 
+/// Whether a group stands alone, with these corners.
+fn has_corners(scene: &Scene, low: Pt, high: Pt) -> bool {
+    scene.count(Sort::Group) == 1 && scene.group(0).low == low && scene.group(0).high == high
+}
+
+fn group_shapes(scene: &mut Scene, alloc: Global) -> Result<(), Fail> {
+    let a = name(b"a")?;
+    let b = name(b"b")?;
+    accepted(scene, put(a, 0, 50, 10, 20))?;
+    accepted(scene, put(b, 100, -30, 30, 40))?;
+    accepted(scene, put(name(b"c")?, 900, 900, 1, 1))?;
+    accepted(scene, group(name(b"frame")?, 5, members(alloc, &[a, b])?))?;
+    // The corners are those of the making.
+    let (x, y) = (-500, 0);
+    accepted(scene, Edit::Move { name: a, x, y })?;
+    // From 0 and -30, less the pad, to 130 and 70, and the pad: the third shape is no member.
+    let low = Pt { x: -5, y: -35 };
+    let high = Pt { x: 135, y: 75 };
+    expect(has_corners(scene, low, high), "corners")
+}
+
 #[test]
-fn shapes_are_changed(rt: HostRuntime) -> Result<(), Fail> {
-    let name = Name::of(b"a").ok_or("a name")?;
-    let mut scene = Scene::empty(rt.alloc());
-    assert!(rt; play(&mut scene, put(name, 1, 2, 3, 4))?.is_none());
-    // A move is counted also where the corner stays. A size leaves the count, and a hold holds once and for all.
-    for edit in [
-        Edit::Move { name, x: 5, y: 6 },
-        Edit::Move { name, x: 5, y: 6 },
-        Edit::Size { name, w: 7, h: 8 },
-        Edit::Hold { name },
-        Edit::Hold { name },
-    ] {
-        assert!(rt; play(&mut scene, edit.copy(rt.alloc())?)?.is_none());
+fn groups_have_corners(rt: HostRuntime) -> Result<(), Fail> {
+    let alloc = rt.alloc();
+    let mut scene = Scene::empty(alloc);
+    group_shapes(&mut scene, alloc)?;
+    Ok(())
+}
+
+/// Whether two shapes stand, of which this is the second.
+fn has_second(scene: &Scene, shape: &Shape) -> bool {
+    scene.count(Sort::Shape) == 2 && *scene.shape(1) == *shape
+}
+
+fn has_link(scene: &Scene, link: &Link) -> bool {
+    scene.count(Sort::Link) == 1 && *scene.link(0) == *link
+}
+
+fn has_compound(scene: &Scene, compound: &Compound) -> bool {
+    scene.count(Sort::Compound) == 1 && *scene.compound(0) == *compound
+}
+
+fn has_page(scene: &Scene, wanted: &Page) -> bool {
+    match scene.page() {
+        Some(page) => *page == *wanted,
+        None => false,
     }
-    assert!(rt; scene.count(Sort::Shape) == 1);
-    let changed = Shape {
+}
+
+fn make_shapes(scene: &mut Scene) -> Result<(), Fail> {
+    let a = name(b"a")?;
+    let name = name(b"b")?;
+    // The ends of the ranges are within them.
+    accepted(scene, put(a, -1_000_000, 1_000_000, 1, 10_000))?;
+    accepted(scene, put(name, 7, 8, 9, 10))?;
+    // A new shape is not held and was never moved.
+    let made = Shape {
+        name,
+        form: Form::Box,
+        x: 7,
+        y: 8,
+        w: 9,
+        h: 10,
+        held: false,
+        moves: 0,
+    };
+    expect(has_second(scene, &made), "a shape")
+}
+
+/// Makes a link and a distance of these shapes, which stand.
+fn connect(scene: &mut Scene) -> Result<(), Fail> {
+    let a = name(b"a")?;
+    let b = name(b"b")?;
+    let link = name(b"link")?;
+    let gap = name(b"gap")?;
+    accepted(scene, join(link, b, a))?;
+    accepted(scene, apart(gap, Axis::Y, b, a, -3))?;
+    expect(
+        has_link(
+            scene,
+            &Link {
+                name: link,
+                a: b,
+                b: a,
+            },
+        ),
+        "a link",
+    )?;
+    let rule = Rule::Apart {
+        axis: Axis::Y,
+        a: b,
+        b: a,
+        gap: -3,
+        exact: true,
+    };
+    expect(has_compound(scene, &Compound { name: gap, rule }), "a gap")
+}
+
+fn make_page(scene: &mut Scene) -> Result<(), Fail> {
+    let name = name(b"sheet")?;
+    accepted(scene, page(name, -9, 8, 700, 600, 5))?;
+    let made = Page {
+        name,
+        x: -9,
+        y: 8,
+        w: 700,
+        h: 600,
+        margin: 5,
+        rigid: false,
+    };
+    expect(has_page(scene, &made), "a page")
+}
+
+fn make_items(scene: &mut Scene) -> Result<(), Fail> {
+    make_shapes(scene)?;
+    connect(scene)?;
+    make_page(scene)
+}
+
+#[test]
+fn items_are_made(rt: HostRuntime) -> Result<(), Fail> {
+    let mut scene = Scene::empty(rt.alloc());
+    make_items(&mut scene)?;
+    Ok(())
+}
+
+fn change_shape(scene: &mut Scene, name: Name) -> Result<(), Fail> {
+    accepted(scene, put(name, 1, 2, 3, 4))?;
+    // A move is counted also where the corner stays. A size leaves the count.
+    accepted(scene, Edit::Move { name, x: 5, y: 6 })?;
+    accepted(scene, Edit::Move { name, x: 5, y: 6 })?;
+    accepted(scene, Edit::Size { name, w: 7, h: 8 })?;
+    accepted(scene, Edit::Hold { name })
+}
+
+/// The shape that `change_shape` leaves, held or freed.
+fn changed_shape(name: Name, held: bool) -> Shape {
+    Shape {
         name,
         form: Form::Box,
         x: 5,
         y: 6,
         w: 7,
         h: 8,
-        held: true,
+        held,
         moves: 2,
-    };
-    assert_eq!(rt; *scene.shape(0), changed);
-    assert!(rt; play(&mut scene, Edit::Free { name })?.is_none());
-    assert!(rt; scene.count(Sort::Shape) == 1);
-    assert!(rt; !scene.shape(0).held);
-    assert!(rt; play(&mut scene, Edit::Remove { name })?.is_none());
-    assert_eq!(rt; scene.count(Sort::Shape), 0);
-    Ok(())
+    }
+}
+
+fn change_and_remove(scene: &mut Scene) -> Result<(), Fail> {
+    let name = name(b"a")?;
+    change_shape(scene, name)?;
+    expect(has_shape(scene, &changed_shape(name, true)), "held")?;
+    accepted(scene, Edit::Free { name })?;
+    expect(has_shape(scene, &changed_shape(name, false)), "freed")?;
+    accepted(scene, Edit::Remove { name })?;
+    expect(scene.count(Sort::Shape) == 0, "removed")
 }
 
 #[test]
-fn changed_shapes_stand(rt: HostRuntime) -> Result<(), Fail> {
-    let name = Name::of(b"a").ok_or("a name")?;
+fn shapes_are_changed(rt: HostRuntime) -> Result<(), Fail> {
     let mut scene = Scene::empty(rt.alloc());
-    for edit in [
-        Edit::Size { name, w: 1, h: 1 },
-        Edit::Move { name, x: 0, y: 0 },
-        Edit::Hold { name },
-        Edit::Free { name },
-        Edit::Remove { name },
-    ] {
-        let refusal = play(&mut scene, edit.copy(rt.alloc())?)?;
-        assert!(rt; refusal == Some(Refusal::Unknown { name }));
-    }
-    // A number outside its range comes before the name.
-    let refusal = play(&mut scene, Edit::Size { name, w: 1, h: 0 })?;
-    assert!(rt; refusal == Some(Refusal::Range { value: 0 }));
-    let refusal = play(
-        &mut scene,
-        Edit::Move {
-            name,
-            x: 1_000_001,
-            y: 0,
-        },
-    )?;
-    assert!(rt; refusal == Some(Refusal::Range { value: 1_000_001 }));
-    Ok(())
-}
-
-#[test]
-fn numbers_have_ranges(rt: HostRuntime) -> Result<(), Fail> {
-    let name = Name::of(b"a").ok_or("a name")?;
-    let mut scene = Scene::empty(rt.alloc());
-    // The number that is refused is the first outside its range, in the order x, y, w, h.
-    for (x, y, w, h, value) in [
-        (1_000_001, 0, 1, 1, 1_000_001),
-        (-1_000_001, 0, 1, 1, -1_000_001),
-        (0, 1_000_001, 0, 1, 1_000_001),
-        (0, -1_000_001, 1, 1, -1_000_001),
-        (0, 0, 0, 10_001, 0),
-        (0, 0, 10_001, 0, 10_001),
-        (0, 0, 1, -1, -1),
-        (0, 0, 1, 10_001, 10_001),
-    ] {
-        let refusal = play(&mut scene, put(name, x, y, w, h))?;
-        assert!(rt;
-            refusal == Some(Refusal::Range { value }),
-            "{x} {y} {w} {h}"
-        );
-    }
-    // An edit that is refused isn't applied.
-    assert_eq!(rt; scene.count(Sort::Shape), 0);
-    Ok(())
-}
-
-#[test]
-fn names_are_new(rt: HostRuntime) -> Result<(), Fail> {
-    let first = Name::of(b"a").ok_or("a name")?;
-    let second = Name::of(b"b_2").ok_or("a name")?;
-    let mut scene = Scene::empty(rt.alloc());
-    assert!(rt; play(&mut scene, put(first, 0, 0, 1, 1))?.is_none());
-    assert!(rt; play(&mut scene, put(second, 0, 0, 1, 1))?.is_none());
-    for name in [first, second] {
-        let refusal = play(&mut scene, put(name, 5, 5, 2, 2))?;
-        assert!(rt; refusal == Some(Refusal::Taken { name }));
-        // A number outside its range comes before the name.
-        let refusal = play(&mut scene, put(name, 0, 0, 0, 1))?;
-        assert!(rt; refusal == Some(Refusal::Range { value: 0 }));
-    }
-    Ok(())
-}
-
-#[test]
-fn shapes_are_limited(rt: HostRuntime) -> Result<(), Fail> {
-    let mut scene = Scene::empty(rt.alloc());
-    // 8 times 16 names, as many as there may be shapes.
-    for first in b"abcdefgh" {
-        for second in b"abcdefghijklmnop" {
-            let name = Name::of(&[*first, *second]).ok_or("a name")?;
-            assert!(rt; play(&mut scene, put(name, 0, 0, 1, 1))?.is_none());
-        }
-    }
-    for name in [b"x".as_slice(), b"y".as_slice()] {
-        let name = Name::of(name).ok_or("a name")?;
-        let refusal = play(&mut scene, put(name, 0, 0, 1, 1))?;
-        let limit = Refusal::Limit {
-            what: Counted::Shapes,
-            count: 128,
-        };
-        assert!(rt; refusal == Some(limit));
-    }
-    // A name that stands comes before the limit.
-    let name = Name::of(b"hp").ok_or("a name")?;
-    let refusal = play(&mut scene, put(name, 0, 0, 1, 1))?;
-    assert!(rt; refusal == Some(Refusal::Taken { name }));
+    change_and_remove(&mut scene)?;
     Ok(())
 }

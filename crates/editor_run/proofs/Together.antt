@@ -24,10 +24,10 @@ use Rattle.editor_run.proofs.Elements.{all-then}
 use Rattle.editor_run.proofs.Later.{AreRightReplies-append, OwnEntriesAre-append_run}
 use Rattle.editor_run.proofs.Lines.{ForSessions-then}
 
--- the lines of a script are of sessions 1 to 8
+-- the lines of a script are of sessions 1 to 8, and of commands that are built
 pub of_sessions : (number : ℕ) (lines : List Line) → AreLines number lines → AllByRecursion IsSessionLine lines
 of_sessions number [] are = tt
-of_sessions number (l ∷ ls) are = ((are.0.session.0, omega (arith, are.0.session.1)), of_sessions (number + 1) ls are.1)
+of_sessions number (l ∷ ls) are = ((are.0.session.0, omega (arith, are.0.session.1), are.0.command.built), of_sessions (number + 1) ls are.1)
 
 -- a history of session entries wasn't ended
 pub not_ended_by : (h : List Entry) → AllByRecursion IsSessionEntry h → end_place h ≡ None

@@ -1,7 +1,9 @@
 -- A script that is being played, line by line, each for its session.
-use Rattle.std.specs.Prelude.{◌≡◌, ◌⊎◌, ℕ, ◌-◌, ◌≤◌, List, [], ◌∷◌, ◌++◌, length, slice_index_or, slice_set, false, Option, Some, None}
+use Rattle.std.specs.Prelude.{◌≡◌, ◌⊎◌, ℕ, ◌-◌, ◌≤◌, List, [], ◌∷◌, ◌++◌, length, slice_index_or, slice_set, true, false, Option, Some, None}
 use Rattle.std.specs.List.{AllByRecursion}
 use Rattle.script_text.specs.declared.scripts.Line.{Line}
+use Rattle.script_text.specs.Keywords.{is_built}
+use Rattle.script_text.specs.Commands.{command_keyword}
 use Rattle.doc_book.specs.declared.entries.Entry.{Entry}
 use Rattle.doc_book.specs.declared.replies.Reply.{Reply}
 use Rattle.doc_book.specs.declared.replies.Reply.TheVariants as reply
@@ -34,9 +36,9 @@ pub record PlaysLine (old new : Document) (line : Line) (reply : Reply) : Type 0
   pub after : after_of reply ≡ length new.history
   pub adds : Adds old.history new.history line.session reply
 
--- a line of a session 1 to 8
+-- a line of a session 1 to 8, of a command that is built
 abbrev pub IsSessionLine : Line → Type 0
-IsSessionLine l = (1 ≤ l.session) × (l.session ≤ 8)
+IsSessionLine l = (1 ≤ l.session) × (l.session ≤ 8) × (is_built (command_keyword l.command) ≡ true)
 
 -- an entry of a session 1 to 8 that isn't End
 pub record IsSessionEntry (e : Entry) : Type 0 where

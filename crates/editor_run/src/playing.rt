@@ -1,7 +1,9 @@
 //! Playing the lines of a script.
-ghost use Rattle.std.specs.Prelude.{◌≡◌, ◌≤◌, [], ◌∷◌, ◌++◌, length, replicate, IfOk, OnOk};
+ghost use Rattle.std.specs.Prelude.{◌≡◌, ◌≤◌, true, [], ◌∷◌, ◌++◌, length, replicate, IfOk, OnOk};
 ghost use Rattle.std.specs.List.{AllByRecursion};
 ghost use Rattle.doc_book.specs.declared.replies.Reply.{Reply as ReplyValue};
+ghost use Rattle.script_text.specs.Keywords.{is_built};
+ghost use Rattle.script_text.specs.Commands.{command_keyword};
 ghost use Rattle.editor_run.specs.Progress.{PlaysLine, HasPlayed, IsSessionLine, with_reply};
 
 use doc_book::{Book, Laid, Refused, Reply};
@@ -10,13 +12,14 @@ use script_text::{Command, Line};
 use std::alloc::Global;
 use units::{Memory, Sequence};
 
-/// Plays one line for its session, and adds its reply to those before it.
+/// Plays one line for its session, of a command that is built, and adds its reply to those before it.
 pub fn play_line(
     alloc: Global,
     book: &mut Book,
     line: &Line,
     replies: &mut Sequence<Reply>,
 ) -> Result<(), Memory>
+    requires { is_built (command_keyword line.now.command) ≡ true }
     ensures { OnOk result ((reply : ReplyValue) × PlaysLine book.old book.new line.now reply × (replies.new ≡ replies.old ++ reply ∷ [])) }
 {
     match &line.command {
@@ -57,6 +60,7 @@ fn play_next(
 ) -> Result<(), Memory>
     requires first { 1 ≤ line.now.session }
     requires last { line.now.session ≤ length lists.old.items }
+    requires built { is_built (command_keyword line.now.command) ≡ true }
     ensures { OnOk result ((reply : ReplyValue) × PlaysLine book.old book.new line.now reply
         × (lists.new.items ≡ with_reply lists.old.items line.now.session reply)) }
 {

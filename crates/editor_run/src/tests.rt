@@ -1,7 +1,7 @@
 //! What no clause says: worked scripts from bytes to bytes, statuses with their texts, and one failing call of each end.
 use crate::{Outcome, Plan, run, run_alone};
 use byte_edge::{MemSink, MemSource, StdSink, StdSource, SureSink, SureSource};
-use std::alloc::Global;
+use std::alloc::{AllocError, Global};
 use std::io;
 use std::test::Fail;
 
@@ -38,6 +38,25 @@ const ASKED_TWICE: &[u8] = b"dunnart 1\n2 where a\n1 box a 3 -4 40 20\n2 where a
 const ASKED_TWICE_LISTING: &[u8] =
     b"listing 1\n0 1 3 box a 3 -4 40 20\n1 0 0 end\n2 0 0 frame\nx a 3 3\ny a -4 -4\nreplies\n1 3 box a 3 -4 40 20 = accepted 0\n2 2 where a = refused 0 unknown a\n2 4 where a = at 3 -4 1\ndone\n";
 
+// The front shows that the answer saw the move.
+const READ_BACK: &[u8] = b"dunnart 1\n1 box a 0 0 10 10\n1 move a 5 5\n1 where a\nend\n";
+
+const READ_BACK_LISTING: &[u8] =
+    b"listing 1\n0 1 2 box a 0 0 10 10\n1 1 3 move a 5 5\n2 0 0 end\n3 0 0 frame\nx a 5 5\ny a 5 5\nreplies\n1 2 box a 0 0 10 10 = accepted 0\n1 3 move a 5 5 = accepted 1\n1 4 where a = at 5 5 2\ndone\n";
+
+// A number that the grammar has, and no shape may have.
+const OUT_OF_RANGE: &[u8] = b"dunnart 1\n1 box a 0 0 10 999999999\nend\n";
+
+const OUT_OF_RANGE_LISTING: &[u8] =
+    b"listing 1\n0 0 0 end\n1 0 0 frame\nreplies\n1 2 box a 0 0 10 999999999 = refused 0 range 999999999\ndone\n";
+
+// Shapes and guidelines are made, changed and removed, by four sessions.
+const EACH_EDIT: &[u8] =
+    b"dunnart 1\n1 oval a 0 0 10 10\n2 guide g x 40\n3 diamond b 20 0 6 8\n1 size a 12 14\n2 shift g -7\n8 where g\n1 hold a\n3 layout\n1 free a\n2 move g 0 0\n3 remove b\n1 hold b\n3 layout\n1 where a\nend\n";
+
+const EACH_EDIT_LISTING: &[u8] =
+    b"listing 1\n0 1 2 oval a 0 0 10 10\n1 2 3 guide g x 40\n2 3 4 diamond b 20 0 6 8\n3 1 5 size a 12 14\n4 2 6 shift g -7\n5 1 8 hold a\n6 3 9 frame\nx a 0 0\nx b 20 20\nx g -7 -7\ny a 0 0\ny b 0 0\n7 1 10 free a\n8 3 12 remove b\n9 3 14 frame\nx a 0 0\nx g -7 -7\ny a 0 0\n10 0 0 end\n11 0 0 frame\nx a 0 0\nx g -7 -7\ny a 0 0\nreplies\n1 2 oval a 0 0 10 10 = accepted 0\n1 5 size a 12 14 = accepted 3\n1 8 hold a = accepted 5\n1 10 free a = accepted 7\n1 13 hold b = refused 9 unknown b\n1 15 where a = at 0 0 10\n2 3 guide g x 40 = accepted 1\n2 6 shift g -7 = accepted 4\n2 11 move g 0 0 = refused 8 kind g\n3 4 diamond b 20 0 6 8 = accepted 2\n3 9 layout = published 6\n3 12 remove b = accepted 8\n3 14 layout = published 9\n8 7 where g = guide x -7 5\ndone\n";
+
 #[test]
 fn worked_scripts(rt: HostRuntime) -> Result<(), Fail> {
     let alloc = rt.alloc();
@@ -47,6 +66,9 @@ fn worked_scripts(rt: HostRuntime) -> Result<(), Fail> {
         (TWO_SESSIONS, TWO_SESSIONS_LISTING),
         (MOVED_AFTER_FRAME, MOVED_AFTER_FRAME_LISTING),
         (ASKED_TWICE, ASKED_TWICE_LISTING),
+        (READ_BACK, READ_BACK_LISTING),
+        (OUT_OF_RANGE, OUT_OF_RANGE_LISTING),
+        (EACH_EDIT, EACH_EDIT_LISTING),
     ] {
         let mut source = SureSource::new(script.to_vec(alloc)?);
         let mut sink = SureSink::new(alloc);
@@ -109,6 +131,40 @@ fn faulty_scripts(rt: HostRuntime) -> Result<(), Fail> {
         assert_eq!(rt; said(alloc, &outcome)?.as_str(), text);
         assert_eq!(rt; sink.bytes(), [].as_slice());
     }
+    Ok(())
+}
+
+/// A script whose second line is longer than a line may be.
+fn long_line(alloc: Global) -> Result<Vec<u8>, AllocError> {
+    let mut script = Vec::from_slice(alloc, b"dunnart 1\n1 where ")?;
+    for _ in 0..2_041 {
+        script.push(b'a')?;
+    }
+    script.extend_from_slice(b"\nend\n")?;
+    Ok(script)
+}
+
+/// A script of one line more than a script may have.
+fn many_lines(alloc: Global) -> Result<Vec<u8>, AllocError> {
+    let mut script = Vec::from_slice(alloc, b"dunnart 1\n")?;
+    for _ in 0..2_001 {
+        script.extend_from_slice(b"1 layout\n")?;
+    }
+    script.extend_from_slice(b"end\n")?;
+    Ok(script)
+}
+
+#[test]
+fn long_scripts(rt: HostRuntime) -> Result<(), Fail> {
+    let alloc = rt.alloc();
+    let mut source = SureSource::new(long_line(alloc)?);
+    let mut sink = SureSink::new(alloc);
+    let outcome = run(&rt, Vec::new(alloc), &mut source, &mut sink);
+    assert_eq!(rt; said(alloc, &outcome)?.as_str(), "3 line 2: Long");
+    let mut source = SureSource::new(many_lines(alloc)?);
+    let outcome = run(&rt, Vec::new(alloc), &mut source, &mut sink);
+    assert_eq!(rt; said(alloc, &outcome)?.as_str(), "3 line 2002: TooMany");
+    assert_eq!(rt; sink.bytes(), [].as_slice());
     Ok(())
 }
 

@@ -1,15 +1,15 @@
 //! What no clause says: that places are copied, carried and drawn with ample memory.
-ghost use Rattle.std.specs.Prelude.{◌≡◌, ◌+◌, ◌<◌, IfOk, OnOk, All, length};
-ghost use Rattle.scene_model.specs.Diagram.{IsCoordinate, most_shapes};
+ghost use Rattle.std.specs.Prelude.{◌≡◌, IfOk, All, length};
+ghost use Rattle.scene_model.specs.Sound.{IsCoordinate, IsShape};
 ghost use Rattle.multiplier_check.specs.Certificate.{IsNear};
 
 use crate::{Desired, Frame, Places, carry, drawn, settled};
 use frac128::Frac;
 use multiplier_check::Certificate;
-use scene_model::{Form, Scene, Shape, Thing};
+use scene_model::{Form, Scene, Shape, Sort, Thing};
 use std::alloc::{AllocError, Global};
 use std::test::Fail;
-use units::{Memory, Name, Sequence};
+use units::{Axis, Name, Sequence};
 
 fn numbers(alloc: Global, place: i64) -> Result<Sequence<i64>, AllocError>
     ensures { IfOk result (λ list. length list ≡ 1) }
@@ -61,16 +61,12 @@ fn floors_are_drawn(rt: HostRuntime) -> Result<(), Fail> {
     Ok(())
 }
 
-/// Adds a box of 10 by 10 at (x, 0), unless its name stands.
-fn add(scene: &mut Scene, name: Name, x: i32) -> Result<(), Memory>
-    requires place { IsCoordinate x }
-    requires room { length scene.old.shapes < most_shapes }
-    ensures { OnOk result (length scene.new.shapes ≡ length scene.old.shapes + 1) }
+/// A box of 10 by 10 at (x, 0).
+fn a_box(name: Name, x: i32) -> Shape
+    requires { IsCoordinate x }
+    ensures { IsShape result }
 {
-    if scene.lookup(&name).is_some() {
-        return Err(Memory);
-    }
-    scene.add(Thing::Shape(Shape {
+    Shape {
         name,
         form: Form::Box,
         x,
@@ -79,26 +75,66 @@ fn add(scene: &mut Scene, name: Name, x: i32) -> Result<(), Memory>
         h: 10,
         held: false,
         moves: 0,
-    }))
+    }
 }
 
-// The box that stood keeps its place, the new one takes its anchor.
-#[test]
-fn places_are_carried(rt: HostRuntime) -> Result<(), Fail> {
-    let alloc = rt.alloc();
+/// Adds a shape, which has a new name and for which there is room.
+fn add(scene: &mut Scene, shape: Shape) -> Result<(), Fail>
+    requires { IsShape shape }
+{
+    if scene.lookup(&shape.name).is_some() {
+        return Err("a new name".into());
+    }
+    if scene.count(Sort::Shape) >= 128 {
+        return Err("room".into());
+    }
+    scene.add(Thing::Shape(shape))?;
+    Ok(())
+}
+
+/// Adds a box to both scenes, and one more to the second.
+fn fill(before: &mut Scene, after: &mut Scene) -> Result<(), Fail> {
     let first = Name::of(b"a").ok_or("a name")?;
     let second = Name::of(b"b").ok_or("a name")?;
-    let mut before = Scene::empty(alloc);
-    add(&mut before, first, 3)?;
-    let mut after = Scene::empty(alloc);
-    add(&mut after, first, 3)?;
-    add(&mut after, second, 20)?;
+    add(before, a_box(first, 3))?;
+    add(after, a_box(first, 3))?;
+    add(after, a_box(second, 20))
+}
+
+/// The places after a change of the scene, where the one variable of each axis stood at 7 and at -7.
+fn carried(alloc: Global, before: &Scene, after: &Scene) -> Result<Places, Fail> {
+    if before.vars(Axis::X) != 1 {
+        return Err("one variable on x".into());
+    }
+    if before.vars(Axis::Y) != 1 {
+        return Err("one variable on y".into());
+    }
     let places = Places {
         x: numbers(alloc, 7)?,
         y: numbers(alloc, -7)?,
     };
-    let next = carry(alloc, &before, &after, &places)?;
-    assert_eq!(rt; next.x.as_slice(), [7, 20].as_slice());
-    assert_eq!(rt; next.y.as_slice(), [-7, 0].as_slice());
+    Ok(carry(alloc, before, after, &places)?)
+}
+
+/// Whether the box that stood keeps its place, and the new one takes its anchor.
+fn are_carried(next: &Places) -> bool {
+    next.x.as_slice() == [7, 20].as_slice() && next.y.as_slice() == [-7, 0].as_slice()
+}
+
+/// Fills both scenes, and carries places from the first to the second.
+fn fill_and_carry(alloc: Global, before: &mut Scene, after: &mut Scene) -> Result<(), Fail> {
+    fill(before, after)?;
+    let next = carried(alloc, before, after)?;
+    if !are_carried(&next) {
+        return Err("carried places".into());
+    }
     Ok(())
+}
+
+#[test]
+fn places_are_carried(rt: HostRuntime) -> Result<(), Fail> {
+    let alloc = rt.alloc();
+    let mut before = Scene::empty(alloc);
+    let mut after = Scene::empty(alloc);
+    fill_and_carry(alloc, &mut before, &mut after)
 }

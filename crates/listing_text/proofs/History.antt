@@ -29,7 +29,7 @@ pub scene_after-push : (h : List Entry) (e : Entry) → scene_at (h ++ e ∷ [])
 scene_after-push h e = scene_at-push h e ∙ scene_of_after (standing h) e.act
 
 accepts : (h : List Entry) (budget : ℕ) (e : Entry) (a : Act) → length h ≤ 4294967294 → ActMayFollow h budget e a → IsAccepting (scene_at h) a
-accepts h budget e (act.Edit edit) short may = (scene_accepts h edit may, few_moves_at h 4294967294 short)
+accepts h budget e (act.Edit edit) short may = (scene_accepts h edit may.1, few_moves_at h 4294967294 short)
 accepts h budget e (act.Frame f) short may = tt
 accepts h budget e act.End short may = tt
 

@@ -10,13 +10,13 @@ use Rattle.std.proofs.lemmas.Option.{get_or_from_slice_get, slice_get_within}
 use Rattle.units.specs.declared.geometry.Axis.{Axis}
 use Rattle.scene_model.specs.declared.variables.Variable.{Variable}
 use Rattle.frac128.specs.Fraction.{Fraction}
-use Rattle.script_text.specs.Words.{Word, spaced}
+use Rattle.script_text.specs.Words.{Word, spaced, behind}
 use Rattle.script_text.specs.Commands.{command_words}
 use Rattle.script_text.specs.declared.scripts.Line.{Line}
 use Rattle.doc_book.specs.declared.replies.Reply.{Reply}
 use Rattle.doc_book.specs.declared.entries.Entry.{Entry}
-use Rattle.doc_book.specs.Listing.{text_line, text_lines, axis_word, variable_word, fraction_word, place_lines, multiplier_lines, reply_lines, reply_words, session_lines, entry_lines, sessions_lines, listing_text}
-use Rattle.listing_text.specs.Words.{behind}
+use Rattle.script_text.specs.Grammar.{axis_word}
+use Rattle.doc_book.specs.Listing.{text_line, text_lines, variable_word, fraction_word, place_lines, multiplier_lines, reply_lines, reply_words, session_lines, entry_lines, sessions_lines, listing_text}
 
 pub text_lines-append : (ls ms : List (List Word)) → text_lines (ls ++ ms) ≡ text_lines ls ++ text_lines ms
 text_lines-append [] ms = refl

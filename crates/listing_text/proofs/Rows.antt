@@ -4,8 +4,10 @@ use Rattle.std.specs.Fmt.{digits}
 use Rattle.units.specs.declared.geometry.Axis.TheVariants.{X, Y}
 use Rattle.scene_model.specs.declared.items.Form.TheVariants.{Box}
 use Rattle.scene_model.specs.declared.items.Shape.{Shape}
+use Rattle.scene_model.specs.Diagram.{Diagram}
 use Rattle.edit_rules.specs.declared.edits.Edit.{Edit}
 use Rattle.edit_rules.specs.declared.edits.Edit.TheVariants as edit
+use Rattle.edit_rules.specs.Effects.{edited}
 use Rattle.edit_rules.specs.declared.refusals.Counted.TheVariants as counted
 use Rattle.edit_rules.specs.declared.refusals.Refusal.TheVariants as refusal
 use Rattle.frac128.specs.Fraction.{Fraction, whole}
@@ -60,7 +62,7 @@ replies = (reply.Accepted 0 ∷ reply.Published 1 ∷ reply.Idle 2 ∷ []) ∷ [
 -- a box, a layout, and a layout with nothing left to do
 first_box : listing_text script history replies
     ≡ codes "listing 1\n0 1 2 box a 3 4 40 20\n1 1 3 frame\nx a 3 3\ny a 4 4\n2 0 0 end\n3 0 0 frame\nx a 3 3\ny a 4 4\nreplies\n1 2 box a 3 4 40 20 = accepted 0\n1 3 layout = published 1\n1 4 layout = idle 2\ndone\n"
-unfolding digits
+unfolding digits edited
 first_box = refl
 
 -- ---- where items stand, and refusals
@@ -85,12 +87,15 @@ causes = refl
 abbrev box_at : List ℕ → ℤ → Shape
 box_at name x = record { name = name; form = Box; x = x; y = pos 0; w = pos 10; h = pos 10; held = false; moves = 0 }
 
+abbrev of_shapes : List Shape → Diagram
+of_shapes shapes = record { shapes = shapes; guides = []; links = []; compounds = []; groups = []; pages = [] }
+
 abbrev third : ℤ → Fraction
 third n = record { num = n; den = 3 }
 
 -- three boxes at 0, 0 and 1, each to stand 5 behind the one before it
 chain_of_three : text_lines
-    (certificate_lines X (record { shapes = box_at (codes "a") (pos 0) ∷ box_at (codes "b") (pos 0) ∷ box_at (codes "c") (pos 1) ∷ [] }) (pos 0 ∷ pos 0 ∷ pos 1 ∷ [])
+    (certificate_lines X (of_shapes (box_at (codes "a") (pos 0) ∷ box_at (codes "b") (pos 0) ∷ box_at (codes "c") (pos 1) ∷ [])) (pos 0 ∷ pos 0 ∷ pos 1 ∷ [])
     (record { places = third (negsuc 13) ∷ third (pos 1) ∷ third (pos 16) ∷ []; multipliers = third (pos 28) ∷ third (pos 26) ∷ [] }))
     ≡ codes "x a 0 -14/3\nx b 0 1/3\nx c 1 16/3\nx #0 28/3\nx #1 26/3\n"
 unfolding digits
@@ -98,7 +103,7 @@ chain_of_three = refl
 
 -- three boxes at 0: one separation isn't tight, so its multiplier is 0 and has no line
 one_of_two : text_lines
-    (certificate_lines X (record { shapes = box_at (codes "a") (pos 0) ∷ box_at (codes "b") (pos 0) ∷ box_at (codes "c") (pos 0) ∷ [] }) (pos 0 ∷ pos 0 ∷ pos 0 ∷ [])
+    (certificate_lines X (of_shapes (box_at (codes "a") (pos 0) ∷ box_at (codes "b") (pos 0) ∷ box_at (codes "c") (pos 0) ∷ [])) (pos 0 ∷ pos 0 ∷ pos 0 ∷ [])
     (record { places = whole (pos 0) ∷ whole (pos 5) ∷ whole (negsuc 4) ∷ []; multipliers = whole (pos 0) ∷ whole (pos 10) ∷ [] }))
     ≡ codes "x a 0 0\nx b 0 5\nx c 0 -5\nx #1 10\n"
 unfolding digits

@@ -2,7 +2,7 @@
 ghost use Rattle.std.specs.Prelude.{◌≡◌, ◌<◌, ◌^◌, ◌∷◌, ◌++◌, [], ℕ, decimal, length, IfOk, OnOk};
 ghost use Rattle.doc_book.specs.Legal.{IsLegal};
 ghost use Rattle.doc_book.specs.Listing.{act_words, text_line, text_lines, lines_of, entry_lines};
-ghost use Rattle.listing_text.specs.Words.{behind};
+ghost use Rattle.script_text.specs.Words.{behind};
 ghost use Rattle.listing_text.specs.Steps.{scene_after, IsAccepting};
 ghost use Rattle.listing_text.specs.Putting.{Puts};
 
@@ -18,6 +18,7 @@ use std::alloc::Global;
 use units::Memory;
 
 /// Adds the words of an act.
+#[tactic(auto, using(crate::proofs::Lines::behind_spaced))]
 fn add_act(alloc: Global, text: &mut Vec<u8>, act: &Act) -> Result<(), Memory>
     ensures { OnOk result (text.new.items ≡ text.old.items ++ behind (act_words act.now)) }
 {

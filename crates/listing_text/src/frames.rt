@@ -2,7 +2,8 @@
 ghost use Rattle.std.specs.Prelude.{◌≡◌, ◌∷◌, ◌++◌, [], decimal, OnOk};
 ghost use Rattle.std.specs.Fmt.{signed_decimal};
 ghost use Rattle.scene_model.specs.Variables.{variables};
-ghost use Rattle.doc_book.specs.Listing.{axis_word, variable_word, fraction_word, text_line, text_lines, place_lines, multiplier_lines, certificate_lines, frame_lines, lines_below};
+ghost use Rattle.script_text.specs.Grammar.{axis_word};
+ghost use Rattle.doc_book.specs.Listing.{variable_word, fraction_word, text_line, text_lines, place_lines, multiplier_lines, certificate_lines, frame_lines, lines_below};
 
 use crate::words::{add_fraction, add_number, add_word, axis_word, begin_with};
 use doc_book::Act;
@@ -11,7 +12,26 @@ use frame_store::Frame;
 use multiplier_check::Certificate;
 use scene_model::{Scene, VariableName};
 use std::alloc::AllocError;
-use units::Axis;
+use units::{Axis, Name};
+
+/// Adds the name of a variable, with `.low` or `.high` behind it where it is that of an edge.
+fn add_variable(text: &mut Vec<u8>, name: &VariableName) -> Result<(), AllocError>
+    ensures { OnOk result (text.new.items ≡ text.old.items ++ 32 ∷ variable_word name.now) }
+{
+    match name {
+        VariableName::OfItem(name) => add_word(text, name.bytes()),
+        VariableName::LowEdge(name) => add_edge(text, name, b".low"),
+        VariableName::HighEdge(name) => add_edge(text, name, b".high"),
+    }
+}
+
+fn add_edge(text: &mut Vec<u8>, name: &Name, edge: &[u8]) -> Result<(), AllocError>
+    ensures { OnOk result (text.new.items ≡ text.old.items ++ 32 ∷ (name.now ++ edge.now)) }
+{
+    add_word(text, name.bytes())?;
+    text.extend_from_slice(edge)?;
+    Ok(())
+}
 
 /// Adds the line of a variable: its name, its desired place and its place.
 fn add_place_line(
@@ -25,9 +45,7 @@ fn add_place_line(
         ++ text_line (axis_word axis ∷ variable_word name.now ∷ signed_decimal desired ∷ fraction_word place.now ∷ [])) }
 {
     text.extend_from_slice(axis_word(axis))?;
-    match name {
-        VariableName::OfItem(name) => add_word(text, name.bytes())?,
-    }
+    add_variable(text, name)?;
     add_number(text, desired)?;
     add_fraction(text, place)?;
     text.push(b'\n')?;

@@ -2,8 +2,9 @@
 ghost use Rattle.std.specs.Prelude.{◌≡◌, ◌∷◌, ◌++◌, [], codes, decimal, IfOk, OnOk};
 ghost use Rattle.std.specs.Fmt.{signed_decimal};
 ghost use Rattle.script_text.specs.Commands.{command_words};
-ghost use Rattle.doc_book.specs.Listing.{axis_word, counted_word, refusal_words, spot_words, reply_words, text_line, text_lines, reply_lines, session_lines, sessions_lines};
-ghost use Rattle.listing_text.specs.Words.{behind};
+ghost use Rattle.script_text.specs.Grammar.{axis_word};
+ghost use Rattle.doc_book.specs.Listing.{counted_word, refusal_words, spot_words, reply_words, text_line, text_lines, reply_lines, session_lines, sessions_lines};
+ghost use Rattle.script_text.specs.Words.{behind};
 ghost use Rattle.listing_text.specs.Putting.{Puts};
 
 use crate::putting::put;

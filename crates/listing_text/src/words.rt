@@ -1,7 +1,8 @@
 //! Words of a line.
 ghost use Rattle.std.specs.Prelude.{◌≡◌, ◌∷◌, ◌++◌, [], decimal, OnOk};
 ghost use Rattle.std.specs.Fmt.{signed_decimal};
-ghost use Rattle.doc_book.specs.Listing.{axis_word, fraction_word};
+ghost use Rattle.script_text.specs.Grammar.{axis_word};
+ghost use Rattle.doc_book.specs.Listing.{fraction_word};
 
 use frac128::Frac;
 use itoa::Buffer;

@@ -1,5 +1,10 @@
+pub mod AllNames
+pub mod Axes
+pub mod Bounds
 pub mod Changes
-pub mod Entries
 pub mod Named
 pub mod Places
+pub mod Positions
 pub mod Sound
+pub mod Testing
+pub mod Using

@@ -1,10 +1,9 @@
 //! Items of one sort, by name and in the order of making.
-ghost use Rattle.std.specs.Prelude.{◌≡◌, ◌<◌, ◌≤◌, true, false, [], ◌∷◌, ◌++◌, IfOk, OnOk, OnErr, length, map, position, slice_get, option_copied, Some};
+ghost use Rattle.std.specs.Prelude.{◌≡◌, ◌<◌, ◌≤◌, true, [], ◌∷◌, ◌++◌, IfOk, OnOk, OnErr, length, map, position, slice_get, option_copied, Some};
 ghost use Rattle.std.specs.List.{IsDistinct, insert, remove};
 ghost use Rattle.scene_model.specs.Names.{NameOf, same_name};
 ghost use Rattle.scene_model.specs.Naming.{has_name, replaced};
 
-use indexmap::IndexMap;
 use std::alloc::Global;
 use std::marker::Model;
 use units::{Memory, Name};
@@ -23,10 +22,10 @@ pub trait HasName: Sized {
         ensures { IfOk result (λ copy. copy ≡ self.now) };
 }
 
-/// Items with different names, in the order of making. Contracts see the list of them.
+/// Items in the order of making, found by name. Contracts see the list of them.
 #[derive(Drop)]
 pub struct NamedItems<T: HasName> {
-    by_name: IndexMap<Name, T>,
+    items: Vec<T>,
 }
 
 impl<T: HasName> Model for NamedItems<T> {
@@ -37,11 +36,7 @@ impl<T: HasName> Model for NamedItems<T> {
 
     ghost coded = { coded_list T.code };
 
-    ghost use Rattle.scene_model.specs.Naming.{AreNamed, items_of};
-
-    ghost view = { λ a. items_of a.by_name.entries };
-
-    ghost invariant = { λ a. AreNamed T.name_of a.by_name.entries };
+    ghost view = { λ a. a.items.items };
 }
 
 impl<T: HasName> NamedItems<T> {
@@ -50,60 +45,72 @@ impl<T: HasName> NamedItems<T> {
         ensures { result ≡ [] }
     {
         NamedItems {
-            by_name: IndexMap::new(alloc),
+            items: Vec::new(alloc),
         }
     }
 
     /// How many items there are.
     pub fn len(&self) -> usize
-        ensures value { result ≡ length self.now }
-        ensures distinct { IsDistinct same_name (map T.name_of self.now) }
+        ensures { result ≡ length self.now }
     {
-        self.by_name.len()
+        self.items.len()
     }
 
-    /// The number of the item of this name: None exactly where no item has it.
+    /// The number of the first item of this name: None exactly where no item has it.
     pub fn number_of(&self, name: &Name) -> Option<usize>
         ensures { result ≡ position (same_name name.now) (map T.name_of self.now) }
     {
-        self.by_name.get_index_of(name)
+        for number in 0..self.len() {
+            if *name == self.name_at(number) {
+                return Some(number);
+            }
+        }
+        None
+    }
+
+    fn name_at(&self, number: usize) -> Name
+        requires { number < length self.now }
+        ensures { slice_get (map T.name_of self.now) number ≡ Some result }
+    {
+        self.at(number).unwrap().name()
+    }
+
+    /// Whether one of the items has this name.
+    pub fn has(&self, name: &Name) -> bool
+        ensures { result ≡ has_name T.name_of name.now self.now }
+    {
+        self.number_of(name).is_some()
     }
 
     /// The item of this number.
     pub fn at(&self, number: usize) -> Option<&T>
         ensures { option_copied result ≡ slice_get self.now number }
     {
-        match self.by_name.get_index(number) {
-            Some((_, item)) => Some(item),
-            None => None,
-        }
+        self.items.get(number)
     }
 
-    /// Adds an item at the end. Its name is new, which `number_of` tells. After want of memory the items are as before.
+    /// Adds an item at the end. After want of memory the items are as before.
     pub fn push(&mut self, item: T) -> Result<(), Memory>
     where
         T: Drop,
-        requires { has_name T.name_of (T.name_of item) self.old ≡ false }
         ensures added { OnOk result (self.new ≡ self.old ++ item ∷ []) }
         ensures unchanged { OnErr result (self.new ≡ self.old) }
     {
-        let name = item.name();
-        self.by_name.insert(name, item)?;
+        self.items.push(item)?;
         Ok(())
     }
 
-    /// Puts the item in the place of the one of its name, which is among the items: `number_of` tells.
+    /// Puts the item in the place of the one of its name, which is among the items: `number_of` tells. The names differ.
     pub fn set(&mut self, item: T)
     where
         T: Drop,
-        requires { has_name T.name_of (T.name_of item) self.old ≡ true }
+        requires stands { has_name T.name_of (T.name_of item) self.old ≡ true }
+        requires distinct { IsDistinct same_name (map T.name_of self.old) }
         ensures { self.new ≡ replaced T.name_of item self.old }
     {
-        // The names differ, so that one item alone is replaced.
-        let _len = self.by_name.len();
         let name = item.name();
-        // A name that stands takes no memory.
-        let _replaced = self.by_name.insert(name, item);
+        let number = self.number_of(&name).unwrap();
+        self.items[number] = item;
     }
 
     /// Takes the item of this number out. Those behind it move up.
@@ -113,22 +120,22 @@ impl<T: HasName> NamedItems<T> {
         ensures taken { result ≡ slice_get self.old number }
         ensures others { self.new ≡ remove self.old number }
     {
-        let (_, item) = self.by_name.shift_remove_index(number)?;
-        Some(item)
+        if number >= self.len() {
+            return None;
+        }
+        Some(self.items.remove(number))
     }
 
-    /// Puts an item back at this number, at most `len`. Its name is new, which `number_of` tells. After want of memory
-    /// the items are as before.
+    /// Puts an item in at this number, at most `len`: those from there on move down. After want of memory the items are
+    /// as before.
     pub fn put_back(&mut self, number: usize, item: T) -> Result<(), Memory>
     where
         T: Drop,
-        requires within { number ≤ length self.old }
-        requires free { has_name T.name_of (T.name_of item) self.old ≡ false }
+        requires { number ≤ length self.old }
         ensures added { OnOk result (self.new ≡ insert self.old number item) }
         ensures unchanged { OnErr result (self.new ≡ self.old) }
     {
-        let name = item.name();
-        self.by_name.insert_before(number, name, item)?;
+        self.items.insert(number, item)?;
         Ok(())
     }
 

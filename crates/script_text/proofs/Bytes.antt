@@ -123,7 +123,7 @@ pub words_lack : (by : ℕ) → by < 45 → (k : Keyword) (fs : List Field) → 
 words_lack by lt k fs h = all_lack by lt (keyword_word k ∷ fields_words fs) (keyword_above k, fields_above fs h)
 
 pub command_lacks : (by : ℕ) → by < 45 → (c : Command) → IsCommand c → AllLack by (command_words c)
-command_lacks by lt c h = words_lack by lt (command_keyword c) (command_fields c) h
+command_lacks by lt c h = words_lack by lt (command_keyword c) (command_fields c) h.fields
 
 append_rec : (a b : List ℕ) → AllByRecursion (λ c. eqb c 10 ≡ false) a → AllByRecursion (λ c. eqb c 10 ≡ false) b → AllByRecursion (λ c. eqb c 10 ≡ false) (a ++ b)
 append_rec [] b h g = g
@@ -136,4 +136,4 @@ join_lacks (w ∷ []) h = lacks 10 (omega arith) w h.0
 join_lacks (w ∷ v ∷ ws) h = append_rec w (32 ∷ spaced (v ∷ ws)) (lacks 10 (omega arith) w h.0) (ne_eqb 32 10 (λ e. omega arith), join_lacks (v ∷ ws) h.1)
 
 pub line_lacks : (l : Line) → 1 ≤ l.session → l.session ≤ 8 → IsCommand l.command → Lacks 10 (line_text l)
-line_lacks l low high h = rw (line_text-digit l high) (All-from_recursion (λ b. eqb b 10 ≡ false) ((48 + l.session) ∷ 32 ∷ spaced (command_words l.command)) (ne_eqb _ _ (λ e. omega arith), (ne_eqb 32 10 (λ e. omega arith), join_lacks (command_words l.command) (keyword_above (command_keyword l.command), fields_above (command_fields l.command) h))))
+line_lacks l low high h = rw (line_text-digit l high) (All-from_recursion (λ b. eqb b 10 ≡ false) ((48 + l.session) ∷ 32 ∷ spaced (command_words l.command)) (ne_eqb _ _ (λ e. omega arith), (ne_eqb 32 10 (λ e. omega arith), join_lacks (command_words l.command) (keyword_above (command_keyword l.command), fields_above (command_fields l.command) h.fields))))

@@ -3,7 +3,9 @@ use Rattle.std.proofs.Common.{◌≡◌, ℕ, List, [], ◌∷◌, ◌++◌, len
 use Rattle.std.specs.Prelude.{codes, Some, None}
 use Rattle.std.specs.Fmt.{digits}
 use Rattle.std.proofs.lemmas.Bool.{leb-true}
+use Rattle.units.specs.declared.geometry.Axis.TheVariants as axis
 use Rattle.scene_model.specs.declared.items.Form.TheVariants as form
+use Rattle.scene_model.specs.declared.items.AlignLine.TheVariants as align_line
 use Rattle.edit_rules.specs.declared.edits.Edit.{Edit}
 use Rattle.edit_rules.specs.declared.edits.Edit.TheVariants as edit
 use Rattle.script_text.specs.declared.scripts.Command.{Command}
@@ -11,7 +13,7 @@ use Rattle.script_text.specs.declared.scripts.Command.TheVariants as command
 use Rattle.script_text.specs.declared.scripts.Line.{Line}
 use Rattle.script_text.specs.Words.{spaced}
 use Rattle.script_text.specs.Numbers.{number_of}
-use Rattle.script_text.specs.Commands.{edit_words, command_words}
+use Rattle.script_text.specs.Commands.{edit_words, command_words, IsCommand}
 use Rattle.script_text.specs.declared.faults.FaultKind.TheVariants as kind
 use Rattle.script_text.specs.declared.faults.ScriptFault.{ScriptFault}
 use Rattle.script_text.specs.Pieces.{pieces}
@@ -35,6 +37,16 @@ text_of_far_box : spaced (edit_words far_box) ≡ codes "box b_2 -1000000 0 1000
 unfolding digits
 text_of_far_box = refl
 
+text_of_guide : spaced (edit_words (edit.Guide (codes "g") axis.X (pos 200))) ≡ codes "guide g x 200"
+unfolding digits
+text_of_guide = refl
+
+text_of_align : spaced (edit_words (edit.Align (codes "c") (codes "g") align_line.Mid (codes "a" ∷ codes "b" ∷ []))) ≡ codes "align c g mid a b"
+text_of_align = refl
+
+text_of_where : spaced (command_words (command.Where (codes "g"))) ≡ codes "where g"
+text_of_where = refl
+
 text_of_layout : spaced (command_words command.Layout) ≡ codes "layout"
 text_of_layout = refl
 
@@ -43,16 +55,33 @@ line n c = record { number = n; session = 1; command = c }
 
 box_line : IsLine 2 (line 2 (command.Edit first_box))
 unfolding digits
-box_line = record { numbered = refl; session = (omega arith, omega arith); command = (refl, (leb-true _ _ refl, (leb-true _ _ refl, (leb-true _ _ refl, (leb-true _ _ refl, tt))))); short = leb-true _ _ refl }
+box_line = record { numbered = refl; session = (omega arith, omega arith); command = record { built = refl; fields = (refl, (leb-true _ _ refl, (leb-true _ _ refl, (leb-true _ _ refl, (leb-true _ _ refl, tt))))) }; short = leb-true _ _ refl }
 
 layout_line : (n : ℕ) → IsLine n (line n command.Layout)
 unfolding digits
-layout_line n = record { numbered = refl; session = (omega arith, omega arith); command = tt; short = leb-true _ _ refl }
+layout_line n = record { numbered = refl; session = (omega arith, omega arith); command = record { built = refl; fields = tt }; short = leb-true _ _ refl }
+
+guide_line : IsLine 2 (line 2 (command.Edit (edit.Guide (codes "g") axis.X (pos 200))))
+unfolding digits
+guide_line = record { numbered = refl; session = (omega arith, omega arith); command = record { built = refl; fields = (refl, (refl, (leb-true _ _ refl, tt))) }; short = leb-true _ _ refl }
+
+where_line : IsLine 3 (line 3 (command.Where (codes "g")))
+unfolding digits
+where_line = record { numbered = refl; session = (omega arith, omega arith); command = record { built = refl; fields = (refl, tt) }; short = leb-true _ _ refl }
+
+-- a command that the program doesn't have
+no_link : IsCommand (command.Edit (edit.Join (codes "l") (codes "a") (codes "b"))) → ⊥
+no_link c = let b = c.built in absurd cc
 
 -- a box and two layouts
 spells_first_box : Spells (codes "dunnart 1\n1 box a 3 4 40 20\n1 layout\n1 layout\nend\n") (line 2 (command.Edit first_box) ∷ line 3 command.Layout ∷ line 4 command.Layout ∷ [])
 unfolding digits
 spells_first_box = record { script = record { few = omega arith; are = (box_line, (layout_line 3, (layout_line 4, tt))) }; text = refl }
+
+-- a guideline, and the question where it stands
+spells_guide : Spells (codes "dunnart 1\n1 guide g x 200\n1 where g\nend\n") (line 2 (command.Edit (edit.Guide (codes "g") axis.X (pos 200))) ∷ line 3 (command.Where (codes "g")) ∷ [])
+unfolding digits
+spells_guide = record { script = record { few = omega arith; are = (guide_line, (where_line, tt)) }; text = refl }
 
 -- no command
 spells_empty : Spells (codes "dunnart 1\nend\n") []

@@ -15,7 +15,6 @@ use Rattle.script_text.specs.declared.slots.Slot.{Slot}
 use Rattle.script_text.specs.declared.slots.Slot.TheVariants as slot
 use Rattle.script_text.specs.Words.{Word}
 use Rattle.script_text.specs.Numbers.{number_of}
-use Rattle.script_text.specs.Keywords.{is_built}
 use Rattle.script_text.specs.Grammar.{slots, is_choice}
 use Rattle.script_text.specs.Commands.{Field, NameField, NumberField, ChoiceField, MembersField, slot_of, edit_keyword, edit_fields, command_keyword, command_fields, field_words, fields_words, IsField, AreFields, AreNames}
 use Rattle.script_text.specs.Reading.{◌>>=◌, word_field, members_of, field_at, ends_at, fields_at}
@@ -211,26 +210,22 @@ edit_slots (edit.Put n form.Oval x y w h) = refl
 edit_slots (edit.Put n form.Diamond x y w h) = refl
 edit_slots (edit.Size n w h) = refl
 edit_slots (edit.Move n x y) = refl
+edit_slots (edit.Shift n p) = refl
 edit_slots (edit.Hold n) = refl
 edit_slots (edit.Free n) = refl
 edit_slots (edit.Remove n) = refl
+edit_slots (edit.Join n a b) = refl
+edit_slots (edit.Unlink n) = refl
+edit_slots (edit.Guide n x p) = refl
+edit_slots (edit.Align n g l ms) = refl
+edit_slots (edit.Spread n x gap ms) = refl
+edit_slots (edit.Rank n x gap ms) = refl
+edit_slots (edit.Apart n x a b gap exact) = refl
+edit_slots (edit.Group n pad ms) = refl
+edit_slots (edit.Page n x y w h margin rigid) = refl
+edit_slots (edit.Drop n) = refl
 
 pub command_slots : (c : Command) → map slot_of (command_fields c) ≡ slots (command_keyword c)
 command_slots (command.Edit e) = edit_slots e
 command_slots command.Layout = refl
 command_slots (command.Where n) = refl
-
-edit_built : (e : Edit) → is_built (edit_keyword e) ≡ true
-edit_built (edit.Put n form.Box x y w h) = refl
-edit_built (edit.Put n form.Oval x y w h) = refl
-edit_built (edit.Put n form.Diamond x y w h) = refl
-edit_built (edit.Size n w h) = refl
-edit_built (edit.Move n x y) = refl
-edit_built (edit.Hold n) = refl
-edit_built (edit.Free n) = refl
-edit_built (edit.Remove n) = refl
-
-pub built_again : (c : Command) → is_built (command_keyword c) ≡ true
-built_again (command.Edit e) = edit_built e
-built_again command.Layout = refl
-built_again (command.Where n) = refl

@@ -1,16 +1,46 @@
--- The bytes of lines and scripts, as they are put together.
+-- The bytes of commands, lines and scripts, as they are put together.
 use Rattle.std.proofs.Common.{◌≡◌, ℕ, zero, suc, ◌+◌, ◌<◌, ◌≤◌, List, [], ◌∷◌, ◌++◌, length, map, take, get_or, refl, sym, ap, ◌∙◌, append_assoc, arith}
 use Rattle.std.specs.Prelude.{codes}
 use Rattle.std.specs.List.{concat}
 use Rattle.std.proofs.Math.Seq.{take-suc, take-length}
 use Rattle.std.proofs.lemmas.List.{append-nil, map_push}
 use Rattle.std.proofs.lemmas.List.Folds.{concat-append}
-use Rattle.script_text.specs.Words.{spaced}
+use Rattle.script_text.specs.Words.{Word, spaced, behind}
 use Rattle.script_text.specs.Commands.{command_words}
 use Rattle.script_text.specs.Scripts.{AreLines, IsScript, Spells, line_text, with_lf}
 use Rattle.script_text.specs.declared.scripts.Line.{Line}
 use Rattle.script_text.proofs.WholeLines.{line_text-digit}
 use Rattle.script_text.proofs.Texts.{session_small}
+
+-- ---- words behind others
+
+behind_push : (ws : List Word) (w : Word) → behind (ws ++ w ∷ []) ≡ behind ws ++ 32 ∷ w
+behind_push [] w = append-nil (32 ∷ w)
+behind_push (v ∷ ws) w = ap (λ (x : List ℕ). 32 ∷ v ++ x) (behind_push ws w) ∙ sym (append_assoc (32 ∷ v) (behind ws) (32 ∷ w))
+
+-- one name more
+pub next_name : (start old new : List ℕ) (names : List Word) (i : ℕ) (name : Word) → i < length names → name ≡ get_or names i name → old ≡ start ++ behind (take i names) → new ≡ old ++ 32 ∷ name → new ≡ start ++ behind (take (suc i) names)
+next_name start old new names i name lt is h e =
+    let more : take (suc i) names ≡ take i names ++ name ∷ [] = take-suc names i name lt ∙ ap (λ (x : Word). take i names ++ x ∷ []) (sym is) in
+    e ∙ ap (λ (x : List ℕ). x ++ 32 ∷ name) h ∙ append_assoc start (behind (take i names)) (32 ∷ name)
+    ∙ ap (λ (x : List ℕ). start ++ x) (sym (ap behind more ∙ behind_push (take i names) name))
+
+pub all_names : (start text : List ℕ) (names : List Word) (i : ℕ) → length names ≤ i → i ≤ length names → text ≡ start ++ behind (take i names) → text ≡ start ++ behind names
+all_names start text names i low high h =
+    let n : i ≡ length names = omega arith in
+    let all : take i names ≡ names = rw n (take-length names) in
+    h ∙ ap (λ (x : List Word). start ++ behind x) all
+
+spaced_behind : (w : Word) (ws ms : List Word) → spaced (w ∷ ws ++ ms) ≡ spaced (w ∷ ws) ++ behind ms
+spaced_behind w [] [] = sym (append-nil w)
+spaced_behind w [] (m ∷ ms) = ap (λ (x : List ℕ). w ++ 32 ∷ x) (spaced_behind m [] ms)
+spaced_behind w (v ∷ ws) ms = ap (λ (x : List ℕ). w ++ 32 ∷ x) (spaced_behind v ws ms) ∙ sym (append_assoc w (32 ∷ spaced (v ∷ ws)) (behind ms))
+
+-- words, and members behind them
+pub with_members : (w : Word) (ws ms : List Word) (old new : List ℕ) → old ≡ spaced (w ∷ ws) → new ≡ old ++ behind ms → new ≡ spaced (w ∷ ws ++ ms)
+with_members w ws ms old new h e = e ∙ ap (λ (x : List ℕ). x ++ behind ms) h ∙ sym (spaced_behind w ws ms)
+
+-- ---- a line
 
 joined : (old text : List ℕ) (digit : ℕ) → (((old ++ digit ∷ []) ++ 32 ∷ []) ++ text) ++ 10 ∷ [] ≡ old ++ ((digit ∷ 32 ∷ text) ++ 10 ∷ [])
 joined old text digit =

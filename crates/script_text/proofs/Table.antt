@@ -100,15 +100,17 @@ found_any table w None is own = sym (no_row_any table w (λ row e. no_row None r
 -- ---- what is built
 
 -- a command that is none of those that the program has
-pub not_built : (k : Keyword) → (k ≡ keyword.Box → ⊥) → (k ≡ keyword.Oval → ⊥) → (k ≡ keyword.Diamond → ⊥) → (k ≡ keyword.Size → ⊥) → (k ≡ keyword.Move → ⊥) → (k ≡ keyword.Hold → ⊥) → (k ≡ keyword.Free → ⊥) → (k ≡ keyword.Remove → ⊥) → (k ≡ keyword.Layout → ⊥) → (k ≡ keyword.Where → ⊥) → is_built k ≡ false
-not_built keyword.Box not_box not_oval not_diamond not_size not_move not_hold not_free not_remove not_layout not_where = absurd (not_box refl)
-not_built keyword.Oval not_box not_oval not_diamond not_size not_move not_hold not_free not_remove not_layout not_where = absurd (not_oval refl)
-not_built keyword.Diamond not_box not_oval not_diamond not_size not_move not_hold not_free not_remove not_layout not_where = absurd (not_diamond refl)
-not_built keyword.Size not_box not_oval not_diamond not_size not_move not_hold not_free not_remove not_layout not_where = absurd (not_size refl)
-not_built keyword.Move not_box not_oval not_diamond not_size not_move not_hold not_free not_remove not_layout not_where = absurd (not_move refl)
-not_built keyword.Hold not_box not_oval not_diamond not_size not_move not_hold not_free not_remove not_layout not_where = absurd (not_hold refl)
-not_built keyword.Free not_box not_oval not_diamond not_size not_move not_hold not_free not_remove not_layout not_where = absurd (not_free refl)
-not_built keyword.Remove not_box not_oval not_diamond not_size not_move not_hold not_free not_remove not_layout not_where = absurd (not_remove refl)
-not_built keyword.Layout not_box not_oval not_diamond not_size not_move not_hold not_free not_remove not_layout not_where = absurd (not_layout refl)
-not_built keyword.Where not_box not_oval not_diamond not_size not_move not_hold not_free not_remove not_layout not_where = absurd (not_where refl)
-not_built _ not_box not_oval not_diamond not_size not_move not_hold not_free not_remove not_layout not_where = refl
+pub not_built : (k : Keyword) → (k ≡ keyword.Box → ⊥) → (k ≡ keyword.Oval → ⊥) → (k ≡ keyword.Diamond → ⊥) → (k ≡ keyword.Size → ⊥) → (k ≡ keyword.Move → ⊥) → (k ≡ keyword.Shift → ⊥) → (k ≡ keyword.Hold → ⊥) → (k ≡ keyword.Free → ⊥) → (k ≡ keyword.Remove → ⊥) → (k ≡ keyword.Guide → ⊥) → (k ≡ keyword.Layout → ⊥) → (k ≡ keyword.Where → ⊥) → is_built k ≡ false
+not_built keyword.Box not_box not_oval not_diamond not_size not_move not_shift not_hold not_free not_remove not_guide not_layout not_where = absurd (not_box refl)
+not_built keyword.Oval not_box not_oval not_diamond not_size not_move not_shift not_hold not_free not_remove not_guide not_layout not_where = absurd (not_oval refl)
+not_built keyword.Diamond not_box not_oval not_diamond not_size not_move not_shift not_hold not_free not_remove not_guide not_layout not_where = absurd (not_diamond refl)
+not_built keyword.Size not_box not_oval not_diamond not_size not_move not_shift not_hold not_free not_remove not_guide not_layout not_where = absurd (not_size refl)
+not_built keyword.Move not_box not_oval not_diamond not_size not_move not_shift not_hold not_free not_remove not_guide not_layout not_where = absurd (not_move refl)
+not_built keyword.Shift not_box not_oval not_diamond not_size not_move not_shift not_hold not_free not_remove not_guide not_layout not_where = absurd (not_shift refl)
+not_built keyword.Hold not_box not_oval not_diamond not_size not_move not_shift not_hold not_free not_remove not_guide not_layout not_where = absurd (not_hold refl)
+not_built keyword.Free not_box not_oval not_diamond not_size not_move not_shift not_hold not_free not_remove not_guide not_layout not_where = absurd (not_free refl)
+not_built keyword.Remove not_box not_oval not_diamond not_size not_move not_shift not_hold not_free not_remove not_guide not_layout not_where = absurd (not_remove refl)
+not_built keyword.Guide not_box not_oval not_diamond not_size not_move not_shift not_hold not_free not_remove not_guide not_layout not_where = absurd (not_guide refl)
+not_built keyword.Layout not_box not_oval not_diamond not_size not_move not_shift not_hold not_free not_remove not_guide not_layout not_where = absurd (not_layout refl)
+not_built keyword.Where not_box not_oval not_diamond not_size not_move not_shift not_hold not_free not_remove not_guide not_layout not_where = absurd (not_where refl)
+not_built _ not_box not_oval not_diamond not_size not_move not_shift not_hold not_free not_remove not_guide not_layout not_where = refl

@@ -1,16 +1,20 @@
 -- Bytes and the script that they spell.
-use Rattle.std.proofs.Common.{◌≡◌, ℕ, zero, suc, ◌+◌, ◌<◌, ◌≤◌, false, eqb, List, [], ◌∷◌, ◌++◌, length, map, get_or, Result, Ok, refl, sym, ap, subst, ◌∙◌, append_assoc, arith}
-use Rattle.std.specs.Prelude.{ℤ, pos, codes}
+use Rattle.std.proofs.Common.{◌≡◌, ℕ, zero, suc, ◌+◌, ◌<◌, ◌≤◌, true, false, cond, eqb, List, [], ◌∷◌, ◌++◌, length, map, get_or, Result, Ok, refl, sym, ap, subst, ◌∙◌, append_assoc, arith}
+use Rattle.std.specs.Prelude.{ℤ, pos, codes, bytes_eq}
 use Rattle.std.specs.List.{concat, join_with_byte, AllByRecursion}
 use Rattle.std.proofs.lemmas.List.{append-nil}
 use Rattle.std.proofs.lemmas.List.Splits.{join_with_byte-slice_split}
 use Rattle.std.proofs.lemmas.List.Elements.{All-from_recursion}
+use Rattle.units.specs.declared.geometry.Axis.{Axis}
+use Rattle.units.specs.declared.geometry.Axis.TheVariants as axis
 use Rattle.scene_model.specs.declared.items.Form.TheVariants as form
+use Rattle.scene_model.specs.declared.items.AlignLine.{AlignLine}
+use Rattle.scene_model.specs.declared.items.AlignLine.TheVariants as line
 use Rattle.edit_rules.specs.declared.edits.Edit.{Edit}
 use Rattle.edit_rules.specs.declared.edits.Edit.TheVariants as edit
 use Rattle.script_text.specs.Words.{Word}
 use Rattle.script_text.specs.Pieces.{pieces}
-use Rattle.script_text.specs.Commands.{Field, NameField, NumberField, edit_keyword, edit_fields, command_keyword, command_fields}
+use Rattle.script_text.specs.Commands.{Field, NameField, NumberField, ChoiceField, MembersField, edit_keyword, edit_fields, command_keyword, command_fields}
 use Rattle.script_text.specs.Scripts.{IsLine, AreLines, IsScript, Spells, line_text, with_lf}
 use Rattle.script_text.specs.Reading.{LineParts, line_parts, line_at, body_pieces, script_pieces}
 use Rattle.script_text.specs.declared.keywords.Keyword.{Keyword}
@@ -37,31 +41,76 @@ number_in : Field → ℤ
 number_in (NumberField z) = z
 number_in _ = pos 0
 
+members_in : Field → List Word
+members_in (MembersField ms) = ms
+members_in _ = []
+
+word_in : Field → Word
+word_in (ChoiceField c w) = w
+word_in _ = []
+
+axis_in : Field → Axis
+axis_in f = cond (bytes_eq (word_in f) (codes "x")) axis.X axis.Y
+
+line_in : Field → AlignLine
+line_in f = cond (bytes_eq (word_in f) (codes "low")) line.Low (cond (bytes_eq (word_in f) (codes "mid")) line.Mid line.High)
+
 from : Keyword → List Field → Command
 from keyword.Box fs = command.Edit (edit.Put (name_in (nth 0 fs)) form.Box (number_in (nth 1 fs)) (number_in (nth 2 fs)) (number_in (nth 3 fs)) (number_in (nth 4 fs)))
 from keyword.Oval fs = command.Edit (edit.Put (name_in (nth 0 fs)) form.Oval (number_in (nth 1 fs)) (number_in (nth 2 fs)) (number_in (nth 3 fs)) (number_in (nth 4 fs)))
 from keyword.Diamond fs = command.Edit (edit.Put (name_in (nth 0 fs)) form.Diamond (number_in (nth 1 fs)) (number_in (nth 2 fs)) (number_in (nth 3 fs)) (number_in (nth 4 fs)))
 from keyword.Size fs = command.Edit (edit.Size (name_in (nth 0 fs)) (number_in (nth 1 fs)) (number_in (nth 2 fs)))
 from keyword.Move fs = command.Edit (edit.Move (name_in (nth 0 fs)) (number_in (nth 1 fs)) (number_in (nth 2 fs)))
+from keyword.Shift fs = command.Edit (edit.Shift (name_in (nth 0 fs)) (number_in (nth 1 fs)))
 from keyword.Hold fs = command.Edit (edit.Hold (name_in (nth 0 fs)))
 from keyword.Free fs = command.Edit (edit.Free (name_in (nth 0 fs)))
 from keyword.Remove fs = command.Edit (edit.Remove (name_in (nth 0 fs)))
+from keyword.Link fs = command.Edit (edit.Join (name_in (nth 0 fs)) (name_in (nth 1 fs)) (name_in (nth 2 fs)))
+from keyword.Unlink fs = command.Edit (edit.Unlink (name_in (nth 0 fs)))
+from keyword.Guide fs = command.Edit (edit.Guide (name_in (nth 0 fs)) (axis_in (nth 1 fs)) (number_in (nth 2 fs)))
+from keyword.Align fs = command.Edit (edit.Align (name_in (nth 0 fs)) (name_in (nth 1 fs)) (line_in (nth 2 fs)) (members_in (nth 3 fs)))
+from keyword.Spread fs = command.Edit (edit.Spread (name_in (nth 0 fs)) (axis_in (nth 1 fs)) (number_in (nth 2 fs)) (members_in (nth 3 fs)))
+from keyword.Rank fs = command.Edit (edit.Rank (name_in (nth 0 fs)) (axis_in (nth 1 fs)) (number_in (nth 2 fs)) (members_in (nth 3 fs)))
+from keyword.Apart fs = command.Edit (edit.Apart (name_in (nth 0 fs)) (axis_in (nth 1 fs)) (name_in (nth 2 fs)) (name_in (nth 3 fs)) (number_in (nth 4 fs)) (bytes_eq (word_in (nth 5 fs)) (codes "exact")))
+from keyword.Group fs = command.Edit (edit.Group (name_in (nth 0 fs)) (number_in (nth 1 fs)) (members_in (nth 2 fs)))
+from keyword.Page fs = command.Edit (edit.Page (name_in (nth 0 fs)) (number_in (nth 1 fs)) (number_in (nth 2 fs)) (number_in (nth 3 fs)) (number_in (nth 4 fs)) (number_in (nth 5 fs)) (bytes_eq (word_in (nth 6 fs)) (codes "rigid")))
+from keyword.Drop fs = command.Edit (edit.Drop (name_in (nth 0 fs)))
 from keyword.Where fs = command.Where (name_in (nth 0 fs))
 from _ fs = command.Layout
 
 edit_back : (e : Edit) → from (edit_keyword e) (edit_fields e) ≡ command.Edit e
-unfolding from nth name_in number_in
+unfolding from nth name_in number_in members_in word_in axis_in line_in
 edit_back (edit.Put n form.Box x y w h) = refl
 edit_back (edit.Put n form.Oval x y w h) = refl
 edit_back (edit.Put n form.Diamond x y w h) = refl
 edit_back (edit.Size n w h) = refl
 edit_back (edit.Move n x y) = refl
+edit_back (edit.Shift n p) = refl
 edit_back (edit.Hold n) = refl
 edit_back (edit.Free n) = refl
 edit_back (edit.Remove n) = refl
+edit_back (edit.Join n a b) = refl
+edit_back (edit.Unlink n) = refl
+edit_back (edit.Guide n axis.X p) = refl
+edit_back (edit.Guide n axis.Y p) = refl
+edit_back (edit.Align n g line.Low ms) = refl
+edit_back (edit.Align n g line.Mid ms) = refl
+edit_back (edit.Align n g line.High ms) = refl
+edit_back (edit.Spread n axis.X gap ms) = refl
+edit_back (edit.Spread n axis.Y gap ms) = refl
+edit_back (edit.Rank n axis.X gap ms) = refl
+edit_back (edit.Rank n axis.Y gap ms) = refl
+edit_back (edit.Apart n axis.X a b gap false) = refl
+edit_back (edit.Apart n axis.X a b gap true) = refl
+edit_back (edit.Apart n axis.Y a b gap false) = refl
+edit_back (edit.Apart n axis.Y a b gap true) = refl
+edit_back (edit.Group n pad ms) = refl
+edit_back (edit.Page n x y w h margin false) = refl
+edit_back (edit.Page n x y w h margin true) = refl
+edit_back (edit.Drop n) = refl
 
 back : (c : Command) → from (command_keyword c) (command_fields c) ≡ c
-unfolding from nth name_in number_in
+unfolding from nth name_in
 back (command.Edit e) = edit_back e
 back command.Layout = refl
 back (command.Where n) = refl

@@ -1,6 +1,6 @@
 -- The commands of a script (they are this project's own): for each command its word and its fields, in the order
 -- of its line, and with them the words of its text.
-use Rattle.std.specs.Prelude.{◌≡◌, ◌<◌, ◌^◌, ℤ, nat_abs, List, [], ◌∷◌, ◌++◌, length, true, ⊤}
+use Rattle.std.specs.Prelude.{◌≡◌, ◌<◌, ◌^◌, ℤ, nat_abs, List, [], ◌∷◌, ◌++◌, length, Bool, true, ⊤}
 use Rattle.std.specs.Fmt.{signed_decimal}
 use Rattle.units.specs.Name.{is_name}
 use Rattle.scene_model.specs.declared.items.Form.{Form}
@@ -10,9 +10,10 @@ use Rattle.edit_rules.specs.declared.edits.Edit.TheVariants as edit
 use Rattle.script_text.specs.declared.scripts.Command.{Command}
 use Rattle.script_text.specs.declared.scripts.Command.TheVariants as command
 use Rattle.script_text.specs.Words.{Word}
-use Rattle.script_text.specs.Keywords.{keyword_word}
-use Rattle.script_text.specs.Grammar.{is_choice}
+use Rattle.script_text.specs.Keywords.{keyword_word, is_built}
+use Rattle.script_text.specs.Grammar.{is_choice, axis_word, align_word, exact_word, rigid_word}
 use Rattle.script_text.specs.declared.slots.Choice.{Choice}
+use Rattle.script_text.specs.declared.slots.Choice.TheVariants as choice
 use Rattle.script_text.specs.declared.slots.Slot.{Slot}
 use Rattle.script_text.specs.declared.slots.Slot.TheVariants as slot
 use Rattle.script_text.specs.declared.keywords.Keyword.{Keyword}
@@ -45,18 +46,45 @@ abbrev pub edit_keyword : Edit → Keyword
 edit_keyword (edit.Put n f x y w h) = form_keyword f
 edit_keyword (edit.Size n w h) = keyword.Size
 edit_keyword (edit.Move n x y) = keyword.Move
+edit_keyword (edit.Shift n p) = keyword.Shift
 edit_keyword (edit.Hold n) = keyword.Hold
 edit_keyword (edit.Free n) = keyword.Free
 edit_keyword (edit.Remove n) = keyword.Remove
+edit_keyword (edit.Join n a b) = keyword.Link
+edit_keyword (edit.Unlink n) = keyword.Unlink
+edit_keyword (edit.Guide n axis p) = keyword.Guide
+edit_keyword (edit.Align n guide line ms) = keyword.Align
+edit_keyword (edit.Spread n axis gap ms) = keyword.Spread
+edit_keyword (edit.Rank n axis gap ms) = keyword.Rank
+edit_keyword (edit.Apart n axis a b gap exact) = keyword.Apart
+edit_keyword (edit.Group n pad ms) = keyword.Group
+edit_keyword (edit.Page n x y w h margin rigid) = keyword.Page
+edit_keyword (edit.Drop n) = keyword.Drop
 
--- the fields of an edit: the name, then its numbers, those on X before those on Y, places before sizes
+-- whether the program has the command of the edit yet
+abbrev pub is_built_edit : Edit → Bool
+is_built_edit e = is_built (edit_keyword e)
+
+-- the fields of an edit, in the order of its line: the name first and members last, numbers on X before those on Y,
+-- places before sizes
 abbrev pub edit_fields : Edit → List Field
 edit_fields (edit.Put n f x y w h) = NameField n ∷ NumberField x ∷ NumberField y ∷ NumberField w ∷ NumberField h ∷ []
 edit_fields (edit.Size n w h) = NameField n ∷ NumberField w ∷ NumberField h ∷ []
 edit_fields (edit.Move n x y) = NameField n ∷ NumberField x ∷ NumberField y ∷ []
+edit_fields (edit.Shift n p) = NameField n ∷ NumberField p ∷ []
 edit_fields (edit.Hold n) = NameField n ∷ []
 edit_fields (edit.Free n) = NameField n ∷ []
 edit_fields (edit.Remove n) = NameField n ∷ []
+edit_fields (edit.Join n a b) = NameField n ∷ NameField a ∷ NameField b ∷ []
+edit_fields (edit.Unlink n) = NameField n ∷ []
+edit_fields (edit.Guide n axis p) = NameField n ∷ ChoiceField choice.Axis (axis_word axis) ∷ NumberField p ∷ []
+edit_fields (edit.Align n guide line ms) = NameField n ∷ NameField guide ∷ ChoiceField choice.AlignLine (align_word line) ∷ MembersField ms ∷ []
+edit_fields (edit.Spread n axis gap ms) = NameField n ∷ ChoiceField choice.Axis (axis_word axis) ∷ NumberField gap ∷ MembersField ms ∷ []
+edit_fields (edit.Rank n axis gap ms) = NameField n ∷ ChoiceField choice.Axis (axis_word axis) ∷ NumberField gap ∷ MembersField ms ∷ []
+edit_fields (edit.Apart n axis a b gap exact) = NameField n ∷ ChoiceField choice.Axis (axis_word axis) ∷ NameField a ∷ NameField b ∷ NumberField gap ∷ ChoiceField choice.Exactness (exact_word exact) ∷ []
+edit_fields (edit.Group n pad ms) = NameField n ∷ NumberField pad ∷ MembersField ms ∷ []
+edit_fields (edit.Page n x y w h margin rigid) = NameField n ∷ NumberField x ∷ NumberField y ∷ NumberField w ∷ NumberField h ∷ NumberField margin ∷ ChoiceField choice.Stiffness (rigid_word rigid) ∷ []
+edit_fields (edit.Drop n) = NameField n ∷ []
 
 -- the keyword of a command
 abbrev pub command_keyword : Command → Keyword
@@ -118,6 +146,7 @@ abbrev pub AreFields : List Field → Type 0
 AreFields [] = ⊤
 AreFields (f ∷ fs) = IsField f × AreFields fs
 
--- a command that a script can have: each field is one
-abbrev pub IsCommand : Command → Type 0
-IsCommand c = AreFields (command_fields c)
+-- a command that a script can have: the program has it, and each field is one
+pub record IsCommand (c : Command) : Type 0 where
+  pub built : is_built (command_keyword c) ≡ true
+  pub fields : AreFields (command_fields c)

@@ -1,12 +1,14 @@
 //! Reading the fields of a command, and commands.
 ghost use Rattle.std.specs.Prelude.{◌≡◌, [], ◌∷◌, false, Some, None, MatchOption, MatchResult, codes, Ok, Err};
-ghost use Rattle.script_text.specs.Commands.{NameField, NumberField, edit_keyword, edit_fields, form_keyword};
+ghost use Rattle.script_text.specs.Commands.{NameField, NumberField, ChoiceField, edit_keyword, edit_fields, form_keyword};
 ghost use Rattle.script_text.specs.Keywords.{is_built};
-ghost use Rattle.script_text.specs.Grammar.{put_slots, pair_slots, name_slots};
+ghost use Rattle.script_text.specs.Grammar.{put_slots, pair_slots, shift_slots, guide_slots, name_slots, axis_word};
 ghost use Rattle.script_text.specs.Reading.{field_at, ends_at, fields_at, parts, command_by, command_at};
 ghost use Rattle.script_text.specs.declared.keywords.Keyword.TheVariants as keyword;
 ghost use Rattle.script_text.specs.declared.slots.Slot.TheVariants as slot;
+ghost use Rattle.script_text.specs.declared.slots.Choice.TheVariants as choice;
 
+use crate::choices::read_axis;
 use crate::faults::FaultKind;
 use crate::fitting::fits;
 use crate::keywords::{Keyword, read_keyword};
@@ -16,7 +18,7 @@ use crate::scripts::Command;
 use crate::slots::slots;
 use edit_rules::Edit;
 use scene_model::Form;
-use units::Name;
+use units::{Axis, Name};
 
 /// A name.
 pub fn name_field(words: &mut Pieces<'_>) -> Option<Name>
@@ -30,6 +32,14 @@ pub fn number_field(words: &mut Pieces<'_>) -> Option<i32>
     ensures { MatchOption result (field_at slot.Number words.old ≡ None) (λ z. field_at slot.Number words.old ≡ Some (NumberField z, words.new)) }
 {
     number(words.next()?)
+}
+
+/// The word of an axis.
+fn axis_field(words: &mut Pieces<'_>) -> Option<Axis>
+    ensures { MatchOption result (field_at (slot.Choice choice.Axis) words.old ≡ None)
+        (λ a. field_at (slot.Choice choice.Axis) words.old ≡ Some (ChoiceField choice.Axis (axis_word a), words.new)) }
+{
+    read_axis(words.next()?)
 }
 
 fn end(words: &Pieces<'_>) -> Option<()>
@@ -75,6 +85,31 @@ fn corner(words: &mut Pieces<'_>) -> Option<Edit>
         name: name_field(words)?,
         x: number_field(words)?,
         y: number_field(words)?,
+    };
+    end(words)?;
+    Some(edit)
+}
+
+fn shift(words: &mut Pieces<'_>) -> Option<Edit>
+    ensures { MatchOption result (fields_at shift_slots words.old ≡ None)
+        (λ e. (edit_keyword e ≡ keyword.Shift) × (fields_at shift_slots words.old ≡ Some (edit_fields e))) }
+{
+    let edit = Edit::Shift {
+        name: name_field(words)?,
+        at: number_field(words)?,
+    };
+    end(words)?;
+    Some(edit)
+}
+
+fn guide(words: &mut Pieces<'_>) -> Option<Edit>
+    ensures { MatchOption result (fields_at guide_slots words.old ≡ None)
+        (λ e. (edit_keyword e ≡ keyword.Guide) × (fields_at guide_slots words.old ≡ Some (edit_fields e))) }
+{
+    let edit = Edit::Guide {
+        name: name_field(words)?,
+        axis: axis_field(words)?,
+        at: number_field(words)?,
     };
     end(words)?;
     Some(edit)
@@ -129,6 +164,10 @@ pub fn command(words: &mut Pieces<'_>) -> Result<Command, FaultKind>
             let edit = corner(words).ok_or(FaultKind::Fields)?;
             Ok(Command::Edit(edit))
         }
+        Keyword::Shift => {
+            let edit = shift(words).ok_or(FaultKind::Fields)?;
+            Ok(Command::Edit(edit))
+        }
         Keyword::Hold => {
             let name = one_name(words).ok_or(FaultKind::Fields)?;
             Ok(Command::Edit(Edit::Hold { name }))
@@ -140,6 +179,10 @@ pub fn command(words: &mut Pieces<'_>) -> Result<Command, FaultKind>
         Keyword::Remove => {
             let name = one_name(words).ok_or(FaultKind::Fields)?;
             Ok(Command::Edit(Edit::Remove { name }))
+        }
+        Keyword::Guide => {
+            let edit = guide(words).ok_or(FaultKind::Fields)?;
+            Ok(Command::Edit(edit))
         }
         Keyword::Layout => {
             end(words).ok_or(FaultKind::Fields)?;

@@ -4,9 +4,10 @@ ghost use Rattle.std.specs.Option.{is_some};
 ghost use Rattle.script_text.specs.Reading.{field_at, fields_at, members_of};
 ghost use Rattle.script_text.specs.declared.slots.Slot.TheVariants as slots;
 
+use crate::choices::is_choice;
 use crate::fields::{name_field, number_field};
 use crate::pieces::Pieces;
-use crate::slots::{Choice, Slot, is_choice};
+use crate::slots::{Choice, Slot};
 use units::Name;
 
 /// Takes a word, and says whether it is one of the choice.

@@ -1,9 +1,12 @@
 //! The words of commands: one table for the reader and the printer.
 ghost use Rattle.std.specs.Prelude.{◌≡◌, ◌++◌, OnOk};
-ghost use Rattle.script_text.specs.Keywords.{keyword_word};
+ghost use Rattle.script_text.specs.Keywords.{keyword_word, is_built};
+ghost use Rattle.script_text.specs.Commands.{form_keyword, edit_keyword, is_built_edit};
 ghost use Rattle.script_text.specs.Reading.{keyword_of};
 
+use edit_rules::Edit;
 use keyword_table::{Words, arms};
+use scene_model::Form;
 use std::alloc::AllocError;
 
 /// The word of a command.
@@ -78,4 +81,67 @@ pub fn add_keyword(text: &mut Vec<u8>, keyword: Keyword) -> Result<(), AllocErro
     let words = Words::<22>::new(&keywords!(words));
     text.extend_from_slice(words.word(keywords!(print keyword)))?;
     Ok(())
+}
+
+fn form_keyword(form: Form) -> Keyword
+    ensures { result ≡ form_keyword form }
+{
+    match form {
+        Form::Box => Keyword::Box,
+        Form::Oval => Keyword::Oval,
+        Form::Diamond => Keyword::Diamond,
+    }
+}
+
+/// The command of an edit; that of a new shape is the one of its form.
+pub fn edit_keyword(edit: &Edit) -> Keyword
+    ensures { result ≡ edit_keyword edit.now }
+{
+    match edit {
+        Edit::Put { form, .. } => form_keyword(*form),
+        Edit::Size { .. } => Keyword::Size,
+        Edit::Move { .. } => Keyword::Move,
+        Edit::Shift { .. } => Keyword::Shift,
+        Edit::Hold { .. } => Keyword::Hold,
+        Edit::Free { .. } => Keyword::Free,
+        Edit::Remove { .. } => Keyword::Remove,
+        Edit::Join { .. } => Keyword::Link,
+        Edit::Unlink { .. } => Keyword::Unlink,
+        Edit::Guide { .. } => Keyword::Guide,
+        Edit::Align { .. } => Keyword::Align,
+        Edit::Spread { .. } => Keyword::Spread,
+        Edit::Rank { .. } => Keyword::Rank,
+        Edit::Apart { .. } => Keyword::Apart,
+        Edit::Group { .. } => Keyword::Group,
+        Edit::Page { .. } => Keyword::Page,
+        Edit::Drop { .. } => Keyword::Drop,
+    }
+}
+
+/// Whether the program has the command yet.
+fn is_built(keyword: Keyword) -> bool
+    ensures { result ≡ is_built keyword }
+{
+    matches!(
+        keyword,
+        Keyword::Box
+            | Keyword::Oval
+            | Keyword::Diamond
+            | Keyword::Size
+            | Keyword::Move
+            | Keyword::Shift
+            | Keyword::Hold
+            | Keyword::Free
+            | Keyword::Remove
+            | Keyword::Guide
+            | Keyword::Layout
+            | Keyword::Where
+    )
+}
+
+/// Whether the program has the command of the edit yet: a script has an edit only where it does.
+pub fn is_built_edit(edit: &Edit) -> bool
+    ensures { result ≡ is_built_edit edit.now }
+{
+    is_built(edit_keyword(edit))
 }

@@ -1,6 +1,7 @@
 //! Scripts as text: the grammar, reading a script, and the text of a command.
 #![tactic(auto)]
 
+mod choices;
 pub mod faults;
 mod fields;
 mod fitting;
@@ -14,6 +15,7 @@ pub mod scripts;
 pub mod slots;
 
 pub use faults::{FaultKind, ReadFault, ScriptFault};
+pub use keywords::is_built_edit;
 pub use printing::{command_text, edit_text, one_spelling, print};
 pub use reading::{one_fault, one_script, read};
 pub use scripts::{Command, Line, Script};

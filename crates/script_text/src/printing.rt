@@ -1,18 +1,21 @@
 //! The texts of commands and of scripts.
 ghost use Rattle.std.specs.Prelude.{ℕ, ◌≡◌, ◌≤◌, List, ◌∷◌, ◌++◌, [], OnOk, IfOk};
 ghost use Rattle.std.specs.Fmt.{signed_decimal};
-ghost use Rattle.script_text.specs.Words.{spaced};
+ghost use Rattle.script_text.specs.Words.{spaced, behind};
 ghost use Rattle.script_text.specs.Keywords.{keyword_word};
-ghost use Rattle.script_text.specs.Commands.{form_keyword, edit_words, command_words};
+ghost use Rattle.script_text.specs.Grammar.{axis_word, align_word, exact_word, rigid_word};
+ghost use Rattle.script_text.specs.Commands.{edit_words, command_words};
 ghost use Rattle.script_text.specs.Scripts.{Spells, line_text, with_lf};
 ghost use Rattle.script_text.specs.declared.scripts.Line.{Line as LineValue};
+ghost use Rattle.script_text.specs.declared.keywords.Keyword.TheVariants as keyword;
 
-use crate::keywords::{Keyword, add_keyword};
+use crate::choices::{align_word, axis_word, exact_word, rigid_word};
+use crate::keywords::{Keyword, add_keyword, edit_keyword};
 use crate::scripts::{Command, Line, Script};
 use edit_rules::Edit;
-use scene_model::Form;
+use scene_model::AlignLine;
 use std::alloc::{AllocError, Global};
-use units::{Memory, Name};
+use units::{Axis, Members, Memory, Name};
 
 /// Adds a space and the word.
 fn add_word(text: &mut Vec<u8>, word: &[u8]) -> Result<(), AllocError>
@@ -31,14 +34,14 @@ fn add_number(alloc: Global, text: &mut Vec<u8>, number: i32) -> Result<(), Allo
     add_word(text, digits.as_bytes())
 }
 
-fn form_keyword(form: Form) -> Keyword
-    ensures { result ≡ form_keyword form }
+/// Adds the names, each with a space before it.
+fn add_names(text: &mut Vec<u8>, names: &[Name]) -> Result<(), AllocError>
+    ensures { OnOk result (text.new.items ≡ text.old.items ++ behind names.now) }
 {
-    match form {
-        Form::Box => Keyword::Box,
-        Form::Oval => Keyword::Oval,
-        Form::Diamond => Keyword::Diamond,
+    for name in names {
+        add_word(text, name.bytes())?;
     }
+    Ok(())
 }
 
 /// The text of a command with a name.
@@ -48,6 +51,15 @@ fn name_text(alloc: Global, keyword: Keyword, name: &Name) -> Result<Vec<u8>, Me
     let mut text = Vec::new(alloc);
     add_keyword(&mut text, keyword)?;
     add_word(&mut text, name.bytes())?;
+    Ok(text)
+}
+
+/// The text of a command with a name and a number.
+fn number_text(alloc: Global, keyword: Keyword, name: &Name, number: i32) -> Result<Vec<u8>, Memory>
+    ensures { IfOk result (λ text. text.items ≡ spaced (keyword_word keyword ∷ name.now ∷ signed_decimal number ∷ [])) }
+{
+    let mut text = name_text(alloc, keyword, name)?;
+    add_number(alloc, &mut text, number)?;
     Ok(text)
 }
 
@@ -62,10 +74,7 @@ fn pair_text(
     ensures { IfOk result (λ text. text.items
         ≡ spaced (keyword_word keyword ∷ name.now ∷ signed_decimal first ∷ signed_decimal second ∷ [])) }
 {
-    let mut text = Vec::new(alloc);
-    add_keyword(&mut text, keyword)?;
-    add_word(&mut text, name.bytes())?;
-    add_number(alloc, &mut text, first)?;
+    let mut text = number_text(alloc, keyword, name, first)?;
     add_number(alloc, &mut text, second)?;
     Ok(text)
 }
@@ -83,35 +92,187 @@ fn put_text(
     ensures { IfOk result (λ text. text.items ≡ spaced (keyword_word keyword ∷ name.now ∷ signed_decimal x
         ∷ signed_decimal y ∷ signed_decimal w ∷ signed_decimal h ∷ [])) }
 {
-    let mut text = Vec::new(alloc);
-    add_keyword(&mut text, keyword)?;
-    add_word(&mut text, name.bytes())?;
-    add_number(alloc, &mut text, x)?;
-    add_number(alloc, &mut text, y)?;
+    let mut text = pair_text(alloc, keyword, name, x, y)?;
     add_number(alloc, &mut text, w)?;
     add_number(alloc, &mut text, h)?;
     Ok(text)
 }
 
-/// The text of an edit: its word and its fields, divided by one space, as in a script, without the session and
-/// without LF.
+/// The text of a page.
+fn page_text(
+    alloc: Global,
+    name: &Name,
+    x: i32,
+    y: i32,
+    w: i32,
+    h: i32,
+    margin: i32,
+    rigid: bool,
+) -> Result<Vec<u8>, Memory>
+    ensures { IfOk result (λ text. text.items ≡ spaced (keyword_word keyword.Page ∷ name.now ∷ signed_decimal x
+        ∷ signed_decimal y ∷ signed_decimal w ∷ signed_decimal h ∷ signed_decimal margin ∷ rigid_word rigid ∷ [])) }
+{
+    let mut text = put_text(alloc, Keyword::Page, name, x, y, w, h)?;
+    add_number(alloc, &mut text, margin)?;
+    add_word(&mut text, rigid_word(rigid))?;
+    Ok(text)
+}
+
+/// The text of a link.
+fn link_text(alloc: Global, name: &Name, a: &Name, b: &Name) -> Result<Vec<u8>, Memory>
+    ensures { IfOk result (λ text. text.items ≡ spaced (keyword_word keyword.Link ∷ name.now ∷ a.now ∷ b.now ∷ [])) }
+{
+    let mut text = name_text(alloc, Keyword::Link, name)?;
+    add_word(&mut text, a.bytes())?;
+    add_word(&mut text, b.bytes())?;
+    Ok(text)
+}
+
+/// The text of a command with a name, an axis and a number.
+fn axis_text(
+    alloc: Global,
+    keyword: Keyword,
+    name: &Name,
+    axis: Axis,
+    number: i32,
+) -> Result<Vec<u8>, Memory>
+    ensures { IfOk result (λ text. text.items
+        ≡ spaced (keyword_word keyword ∷ name.now ∷ axis_word axis ∷ signed_decimal number ∷ [])) }
+{
+    let mut text = name_text(alloc, keyword, name)?;
+    add_word(&mut text, axis_word(axis))?;
+    add_number(alloc, &mut text, number)?;
+    Ok(text)
+}
+
+/// The text of a command with a name, an axis, a number and members.
+fn row_text(
+    alloc: Global,
+    keyword: Keyword,
+    name: &Name,
+    axis: Axis,
+    gap: i32,
+    members: &Members,
+) -> Result<Vec<u8>, Memory>
+    ensures { IfOk result (λ text. text.items
+        ≡ spaced (keyword_word keyword ∷ name.now ∷ axis_word axis ∷ signed_decimal gap ∷ members.now)) }
+{
+    let mut text = axis_text(alloc, keyword, name, axis, gap)?;
+    add_names(&mut text, members.list())?;
+    Ok(text)
+}
+
+/// The text of an alignment.
+fn align_text(
+    alloc: Global,
+    name: &Name,
+    guide: &Name,
+    line: AlignLine,
+    members: &Members,
+) -> Result<Vec<u8>, Memory>
+    ensures { IfOk result (λ text. text.items
+        ≡ spaced (keyword_word keyword.Align ∷ name.now ∷ guide.now ∷ align_word line ∷ members.now)) }
+{
+    let mut text = name_text(alloc, Keyword::Align, name)?;
+    add_word(&mut text, guide.bytes())?;
+    add_word(&mut text, align_word(line))?;
+    add_names(&mut text, members.list())?;
+    Ok(text)
+}
+
+/// The text of a separation of two.
+fn apart_text(
+    alloc: Global,
+    name: &Name,
+    axis: Axis,
+    a: &Name,
+    b: &Name,
+    gap: i32,
+    exact: bool,
+) -> Result<Vec<u8>, Memory>
+    ensures { IfOk result (λ text. text.items ≡ spaced (keyword_word keyword.Apart ∷ name.now ∷ axis_word axis ∷ a.now ∷ b.now
+        ∷ signed_decimal gap ∷ exact_word exact ∷ [])) }
+{
+    let mut text = name_text(alloc, Keyword::Apart, name)?;
+    add_word(&mut text, axis_word(axis))?;
+    add_word(&mut text, a.bytes())?;
+    add_word(&mut text, b.bytes())?;
+    add_number(alloc, &mut text, gap)?;
+    add_word(&mut text, exact_word(exact))?;
+    Ok(text)
+}
+
+/// The text of a group.
+fn group_text(alloc: Global, name: &Name, pad: i32, members: &Members) -> Result<Vec<u8>, Memory>
+    ensures { IfOk result (λ text. text.items
+        ≡ spaced (keyword_word keyword.Group ∷ name.now ∷ signed_decimal pad ∷ members.now)) }
+{
+    let mut text = number_text(alloc, Keyword::Group, name, pad)?;
+    add_names(&mut text, members.list())?;
+    Ok(text)
+}
+
+/// The text of an edit, built or not: its word and its fields, divided by one space, as in a script, without the
+/// session and without LF.
 pub fn edit_text(alloc: Global, edit: &Edit) -> Result<Vec<u8>, Memory>
     ensures { IfOk result (λ text. text.items ≡ spaced (edit_words edit.now)) }
 {
+    let keyword = edit_keyword(edit);
     match edit {
         Edit::Put {
             name,
-            form,
             x,
             y,
             w,
             h,
-        } => put_text(alloc, form_keyword(*form), name, *x, *y, *w, *h),
-        Edit::Size { name, w, h } => pair_text(alloc, Keyword::Size, name, *w, *h),
-        Edit::Move { name, x, y } => pair_text(alloc, Keyword::Move, name, *x, *y),
-        Edit::Hold { name } => name_text(alloc, Keyword::Hold, name),
-        Edit::Free { name } => name_text(alloc, Keyword::Free, name),
-        Edit::Remove { name } => name_text(alloc, Keyword::Remove, name),
+            ..
+        } => put_text(alloc, keyword, name, *x, *y, *w, *h),
+        Edit::Size { name, w, h } => pair_text(alloc, keyword, name, *w, *h),
+        Edit::Move { name, x, y } => pair_text(alloc, keyword, name, *x, *y),
+        Edit::Shift { name, at } => number_text(alloc, keyword, name, *at),
+        Edit::Hold { name }
+        | Edit::Free { name }
+        | Edit::Remove { name }
+        | Edit::Unlink { name }
+        | Edit::Drop { name } => name_text(alloc, keyword, name),
+        Edit::Join { name, a, b } => link_text(alloc, name, a, b),
+        Edit::Guide { name, axis, at } => axis_text(alloc, keyword, name, *axis, *at),
+        Edit::Align {
+            name,
+            guide,
+            line,
+            members,
+        } => align_text(alloc, name, guide, *line, members),
+        Edit::Spread {
+            name,
+            axis,
+            gap,
+            members,
+        }
+        | Edit::Rank {
+            name,
+            axis,
+            gap,
+            members,
+        } => row_text(alloc, keyword, name, *axis, *gap, members),
+        Edit::Apart {
+            name,
+            axis,
+            a,
+            b,
+            gap,
+            exact,
+        } => apart_text(alloc, name, *axis, a, b, *gap, *exact),
+        Edit::Group { name, pad, members } => group_text(alloc, name, *pad, members),
+        Edit::Page {
+            name,
+            x,
+            y,
+            w,
+            h,
+            margin,
+            rigid,
+        } => page_text(alloc, name, *x, *y, *w, *h, *margin, *rigid),
     }
 }
 

@@ -1,10 +1,8 @@
 //! What stands behind the word of each command.
-ghost use Rattle.std.specs.Prelude.{◌≡◌, bytes_eq};
-ghost use Rattle.std.specs.List.{list_any};
-ghost use Rattle.script_text.specs.Grammar.{slots, is_choice};
+ghost use Rattle.std.specs.Prelude.{◌≡◌};
+ghost use Rattle.script_text.specs.Grammar.{slots};
 
 use crate::keywords::Keyword;
-use keyword_table::Words;
 
 /// A choice between words.
 #[derive(Clone, Copy, Debug, PartialEq, Eq)]
@@ -85,24 +83,5 @@ pub fn slots(keyword: Keyword) -> &'static [Slot]
             Slot::Choice(Choice::Stiffness),
         ],
         Keyword::Undo | Keyword::Layout => &[],
-    }
-}
-
-/// Whether the word is in the table.
-fn has_word<const N: usize>(words: &Words<N>, word: &[u8]) -> bool
-    ensures { result ≡ list_any (bytes_eq word.now) words.now }
-{
-    words.find(word).is_some()
-}
-
-/// Whether the word is one of the choice.
-pub fn is_choice(choice: Choice, word: &[u8]) -> bool
-    ensures { result ≡ is_choice choice word.now }
-{
-    match choice {
-        Choice::Axis => has_word(&Words::<2>::new(&[b"x", b"y"]), word),
-        Choice::AlignLine => has_word(&Words::<3>::new(&[b"low", b"mid", b"high"]), word),
-        Choice::Exactness => has_word(&Words::<2>::new(&[b"least", b"exact"]), word),
-        Choice::Stiffness => has_word(&Words::<2>::new(&[b"soft", b"rigid"]), word),
     }
 }

@@ -1,12 +1,12 @@
 //! What no clause says: that scripts are read with ample memory, and which near misses are refused.
 use crate::{
-    Command, FaultKind, Line, ReadFault, ScriptFault, command_text, edit_text, print, read,
+    Command, FaultKind, Line, ReadFault, ScriptFault, command_text, is_built_edit, print, read,
 };
 use edit_rules::Edit;
-use scene_model::Form;
+use scene_model::{AlignLine, Form};
 use std::alloc::Global;
 use std::test::Fail;
-use units::Name;
+use units::{Axis, Members, Name};
 
 fn first_box() -> Option<Edit> {
     Some(Edit::Put {
@@ -34,13 +34,21 @@ fn count(alloc: Global, bytes: &[u8]) -> Result<usize, ReadFault> {
 
 #[test]
 fn scripts_are_read(rt: HostRuntime) -> Result<(), Fail> {
-    let text = "dunnart 1\n1 box a 3 4 40 20\n1 layout\n1 layout\nend\n";
+    let text =
+        "dunnart 1\n1 box a 3 4 40 20\n1 guide g y -200\n1 shift g 7\n1 where g\n1 layout\nend\n";
     let script = read(rt.alloc(), text.as_bytes()).ok().ok_or("a script")?;
-    let command = Command::Edit(first_box().ok_or("a box")?);
+    let name = Name::of(b"g").ok_or("a name")?;
+    let guide = Edit::Guide {
+        name,
+        axis: Axis::Y,
+        at: -200,
+    };
     let lines = [
-        line(2, command),
-        line(3, Command::Layout),
-        line(4, Command::Layout),
+        line(2, Command::Edit(first_box().ok_or("a box")?)),
+        line(3, Command::Edit(guide)),
+        line(4, Command::Edit(Edit::Shift { name, at: 7 })),
+        line(5, Command::Where { name }),
+        line(6, Command::Layout),
     ];
     assert_eq!(rt; script.lines(), lines.as_slice());
     for (text, lines) in [
@@ -52,6 +60,10 @@ fn scripts_are_read(rt: HostRuntime) -> Result<(), Fail> {
         ),
         ("dunnart 1\n2 size a 10 999999999\n3 move a 0 -1\nend\n", 2),
         ("dunnart 1\n4 hold a\n5 free a\n6 remove a\nend\n", 3),
+        (
+            "dunnart 1\n1 guide g x 0\n2 shift g -5\n3 where g\nend\n",
+            3,
+        ),
         ("dunnart 1\n1 box b_2 -999999999 0 999999999 1\nend\n", 1),
         (
             "dunnart 1\n1 box a23456789012345678901234 1 1 1 1\nend\n",
@@ -68,6 +80,7 @@ fn scripts_are_printed(rt: HostRuntime) -> Result<(), Fail> {
     for text in [
         "dunnart 1\nend\n",
         "dunnart 1\n1 box a 3 4 40 20\n1 layout\n1 layout\nend\n",
+        "dunnart 1\n1 guide g x 200\n8 shift g -5\n1 where g\nend\n",
     ] {
         let script = read(rt.alloc(), text.as_bytes()).ok().ok_or("a script")?;
         let bytes = print(rt.alloc(), &script)?;
@@ -157,10 +170,8 @@ fn kind_of(alloc: Global, command: &str) -> Result<Option<FaultKind>, Fail> {
 #[test]
 fn commands_that_are_not_built(rt: HostRuntime) -> Result<(), Fail> {
     for command in [
-        "shift g -5",
         "link l a b",
         "unlink l",
-        "guide g x 200",
         "align c g low a",
         "align c g mid a b",
         "align c g high a b c",
@@ -184,20 +195,25 @@ fn commands_that_are_not_built(rt: HostRuntime) -> Result<(), Fail> {
 }
 
 #[test]
-fn fields_of_commands_that_are_not_built(rt: HostRuntime) -> Result<(), Fail> {
+fn fields_of_other_commands(rt: HostRuntime) -> Result<(), Fail> {
     for command in [
         "oval a 0 0 10",
         "diamond a 0 0 10 10 10",
         "size a 10",
         "move a 0 -0",
         "shift g 01",
+        "shift g",
+        "shift g x 5",
         "hold",
         "free 2a",
         "remove a b",
         "link l a",
         "unlink ",
         "guide g z 200",
+        "guide g X 200",
         "guide g 200 x",
+        "guide g x",
+        "guide g x 200 1",
         "align c g middle a",
         "align c g mid",
         "align c g mid a  b",
@@ -211,6 +227,8 @@ fn fields_of_commands_that_are_not_built(rt: HostRuntime) -> Result<(), Fail> {
         "undo a",
         "undo ",
         "where",
+        "where 2a",
+        "where a b",
     ] {
         assert_eq!(rt;
             kind_of(rt.alloc(), command)?,
@@ -254,35 +272,151 @@ fn long_scripts_are_refused(rt: HostRuntime) -> Result<(), Fail> {
     Ok(())
 }
 
-#[test]
-fn commands_have_texts(rt: HostRuntime) -> Result<(), Fail> {
-    let edit = first_box().ok_or("a box")?;
-    assert_eq!(rt;
-        edit_text(rt.alloc(), &edit)?.as_slice(),
-        b"box a 3 4 40 20".as_slice()
-    );
-    let command = Command::Edit(Edit::Put {
-        name: Name::of(b"b_2").ok_or("a name")?,
-        form: Form::Box,
+/// The texts of the commands, one a line.
+fn texts(alloc: Global, commands: &[Command]) -> Result<Vec<u8>, Fail> {
+    let mut texts = Vec::new(alloc);
+    for command in commands {
+        texts.extend_from_slice(&command_text(alloc, command)?)?;
+        texts.push(b'\n')?;
+    }
+    Ok(texts)
+}
+
+fn put(name: Name, form: Form) -> Command {
+    Command::Edit(Edit::Put {
+        name,
+        form,
         x: -1_000_000,
         y: 0,
         w: 10_000,
         h: 1,
-    });
-    let text = command_text(rt.alloc(), &command)?;
-    assert_eq!(rt; text.as_slice(), b"box b_2 -1000000 0 10000 1".as_slice());
+    })
+}
+
+#[test]
+fn commands_have_texts(rt: HostRuntime) -> Result<(), Fail> {
     let name = Name::of(b"b_2").ok_or("a name")?;
-    let text = edit_text(rt.alloc(), &Edit::Size { name, w: 7, h: -8 })?;
-    assert_eq!(rt; text.as_slice(), b"size b_2 7 -8".as_slice());
-    let text = edit_text(rt.alloc(), &Edit::Move { name, x: -7, y: 8 })?;
-    assert_eq!(rt; text.as_slice(), b"move b_2 -7 8".as_slice());
-    let text = edit_text(rt.alloc(), &Edit::Hold { name })?;
-    assert_eq!(rt; text.as_slice(), b"hold b_2".as_slice());
-    let text = edit_text(rt.alloc(), &Edit::Free { name })?;
-    assert_eq!(rt; text.as_slice(), b"free b_2".as_slice());
-    let text = edit_text(rt.alloc(), &Edit::Remove { name })?;
-    assert_eq!(rt; text.as_slice(), b"remove b_2".as_slice());
-    let text = command_text(rt.alloc(), &Command::Layout)?;
-    assert_eq!(rt; text.as_slice(), b"layout".as_slice());
+    let (a, b) = (
+        Name::of(b"a").ok_or("a name")?,
+        Name::of(b"B").ok_or("a name")?,
+    );
+    let commands = [
+        put(name, Form::Box),
+        put(name, Form::Oval),
+        put(name, Form::Diamond),
+        Command::Edit(Edit::Size { name, w: 7, h: -8 }),
+        Command::Edit(Edit::Move { name, x: -7, y: 8 }),
+        Command::Edit(Edit::Shift { name, at: -5 }),
+        Command::Edit(Edit::Hold { name }),
+        Command::Edit(Edit::Free { name }),
+        Command::Edit(Edit::Remove { name }),
+        Command::Edit(Edit::Join { name, a, b }),
+        Command::Edit(Edit::Unlink { name }),
+        Command::Layout,
+        Command::Where { name },
+    ];
+    let text =
+        "box b_2 -1000000 0 10000 1\noval b_2 -1000000 0 10000 1\ndiamond b_2 -1000000 0 10000 1\n\
+        size b_2 7 -8\nmove b_2 -7 8\nshift b_2 -5\nhold b_2\nfree b_2\nremove b_2\nlink b_2 a B\n\
+        unlink b_2\nlayout\nwhere b_2\n";
+    assert_eq!(rt; texts(rt.alloc(), &commands)?.as_slice(), text.as_bytes());
+    Ok(())
+}
+
+fn page(name: Name, rigid: bool) -> Command {
+    Command::Edit(Edit::Page {
+        name,
+        x: 1,
+        y: 2,
+        w: 600,
+        h: 800,
+        margin: 20,
+        rigid,
+    })
+}
+
+/// The members a and B.
+fn members(alloc: Global) -> Result<Members, Fail> {
+    let a = Name::of(b"a").ok_or("a name")?;
+    let b = Name::of(b"B").ok_or("a name")?;
+    Ok(Members::of(vec![in alloc; a, b]?).ok_or("two members")?)
+}
+
+#[test]
+fn commands_on_several_items_have_texts(rt: HostRuntime) -> Result<(), Fail> {
+    let alloc = rt.alloc();
+    let name = Name::of(b"c").ok_or("a name")?;
+    let (a, b) = (
+        Name::of(b"a").ok_or("a name")?,
+        Name::of(b"B").ok_or("a name")?,
+    );
+    let commands = [
+        Command::Edit(Edit::Guide {
+            name,
+            axis: Axis::X,
+            at: 200,
+        }),
+        Command::Edit(Edit::Align {
+            name,
+            guide: a,
+            line: AlignLine::Low,
+            members: members(alloc)?,
+        }),
+        Command::Edit(Edit::Align {
+            name,
+            guide: a,
+            line: AlignLine::Mid,
+            members: members(alloc)?,
+        }),
+        Command::Edit(Edit::Align {
+            name,
+            guide: a,
+            line: AlignLine::High,
+            members: members(alloc)?,
+        }),
+        Command::Edit(Edit::Spread {
+            name,
+            axis: Axis::Y,
+            gap: 80,
+            members: members(alloc)?,
+        }),
+        Command::Edit(Edit::Rank {
+            name,
+            axis: Axis::X,
+            gap: -1,
+            members: members(alloc)?,
+        }),
+        Command::Edit(Edit::Apart {
+            name,
+            axis: Axis::X,
+            a,
+            b,
+            gap: 20,
+            exact: false,
+        }),
+        Command::Edit(Edit::Apart {
+            name,
+            axis: Axis::Y,
+            a,
+            b,
+            gap: -20,
+            exact: true,
+        }),
+        Command::Edit(Edit::Group {
+            name,
+            pad: 15,
+            members: members(alloc)?,
+        }),
+        page(name, false),
+        page(name, true),
+        Command::Edit(Edit::Drop { name }),
+    ];
+    let text =
+        "guide c x 200\nalign c a low a B\nalign c a mid a B\nalign c a high a B\nspread c y 80 a B\n\
+        rank c x -1 a B\napart c x a B 20 least\napart c y a B -20 exact\ngroup c 15 a B\n\
+        page c 1 2 600 800 20 soft\npage c 1 2 600 800 20 rigid\ndrop c\n";
+    assert_eq!(rt; texts(alloc, &commands)?.as_slice(), text.as_bytes());
+    assert!(rt; is_built_edit(&Edit::Hold { name }));
+    assert!(rt; !is_built_edit(&Edit::Drop { name }));
     Ok(())
 }

@@ -2,7 +2,8 @@ use Rattle.std.proofs.Common.{◌≡◌, ◌+◌, ◌≤◌, [], ◌∷◌, ◌+
 use Rattle.std.specs.Prelude.{pos, FitsSigned}
 use Rattle.std.proofs.lemmas.Int.{to_z-of_z}
 use Rattle.std.specs.Fmt.{signed_decimal}
-use Rattle.doc_book.specs.Listing.{axis_word, variable_word, fraction_word, text_line, text_lines, place_lines}
+use Rattle.script_text.specs.Grammar.{axis_word}
+use Rattle.doc_book.specs.Listing.{variable_word, fraction_word, text_line, text_lines, place_lines}
 use Rattle.std.proofs.lemmas.List.{drop_all}
 use Rattle.scene_model.specs.Variables.{variables}
 use Rattle.listing_text.proofs.Lines.{no_lines_desired, no_lines_places, places_more, grows, is_whole}

@@ -1,33 +1,17 @@
-use Rattle.std.proofs.Common.{◌≡◌, List, ap, sym, ◌∙◌, subst, false}
-use Rattle.edit_rules.specs.Effects.{edited, HasFewMoves}
-use Rattle.edit_rules.specs.Refusals.{refusal_of}
+use Rattle.std.proofs.Common.{List, ap, sym, ◌∙◌, subst, false}
+use Rattle.edit_rules.specs.Effects.{edited}
 use Rattle.doc_book.specs.History.{scene_at}
 use Rattle.doc_book.specs.Document.{Document}
 use Rattle.doc_book.specs.Kept.{IsKept}
 use Rattle.doc_book.specs.declared.entries.Entry.{Entry}
 use Rattle.doc_book.specs.Verdicts.{verdict}
-use Rattle.doc_book.proofs.Keeping.{IsKept-edit, few_moves}
-use Rattle.doc_book.proofs.Refusing.{not_ended, scene_accepts}
+use Rattle.doc_book.proofs.Keeping.{IsKept-edit}
 use Rattle.doc_book.proofs.book.Book.enter_edit.Goals as goal
-
-pub apply-requires-clause-accepted : goal.apply-requires-clause-accepted
-apply-requires-clause-accepted c =
-    let h = c.self.inside.history.items in
-    let accepted = ap (λ (d : Document). verdict d.history c.args.edit) c.self.view_is ∙ c.requires in
-    let scene_is : c.in_ok-scene.scene ≡ scene_at h = c.in_ok-scene.ensures ∙ c.self.invariant.scene_is in
-    ap (λ d. refusal_of d c.in_ok-copy.field-0) scene_is ∙ (ap (refusal_of (scene_at h)) c.in_ok-copy.ensures ∙ scene_accepts h c.args.edit accepted)
-
-pub apply-requires-clause-few : goal.apply-requires-clause-few
-apply-requires-clause-few c =
-    let h = c.self.inside.history.items in
-    let accepted = ap (λ (d : Document). verdict d.history c.args.edit) c.self.view_is ∙ c.requires in
-    subst (HasFewMoves 4294967294) (sym c.in_ok-scene.ensures)
-    (few_moves h c.self.inside.budget c.self.inside.scene c.self.inside.places c.self.inside.settled c.self.invariant (not_ended h c.args.edit accepted))
 
 pub invariant_of-self-2 : goal.invariant_of-self-2
 invariant_of-self-2 c =
-    let accepted = ap (λ (d : Document). verdict d.history c.args.edit) c.self.view_is ∙ c.requires in
-    let scene_is = c.in_ok-apply.ensures.edited ∙ (ap (λ e. edited e c.in_ok-scene.scene) c.in_ok-copy.ensures ∙ ap (edited c.args.edit) c.in_ok-scene.ensures) in
-    subst (λ (items : List Entry). IsKept items c.self.inside.budget c.apply.new.scene c.in_ok-places.places false) (sym c.in_ok-push.ensures.items)
+    let accepted = ap (λ (d : Document). verdict d.history c.args.edit) c.self.view_is ∙ c.requires.accepted in
+    let scene_is = c.in_ok-scene.ensures ∙ ap (edited c.args.edit) (ap (λ (d : Document). scene_at d.history) (sym c.self.view_is) ∙ sym c.self.invariant.scene_is) in
+    subst (λ (items : List Entry). IsKept items c.self.inside.budget c.in_ok-scene.scene c.in_ok-places.places false) (sym c.in_ok-push.ensures.items)
     (IsKept-edit c.self.inside.history.items c.self.inside.budget c.self.inside.scene c.self.inside.places c.self.inside.settled c.args.who c.args.line c.args.edit
-    c.apply.new.scene c.in_ok-places.places c.self.invariant accepted scene_is c.in_ok-places.ensures)
+    c.in_ok-scene.scene c.in_ok-places.places c.self.invariant c.requires.built accepted scene_is c.in_ok-places.ensures)

@@ -1,0 +1,23 @@
+use Rattle.std.proofs.Common.{◌≡◌, ap, sym, ◌∙◌, subst}
+use Rattle.edit_rules.specs.Effects.{HasFewMoves}
+use Rattle.edit_rules.specs.Refusals.{refusal_of}
+use Rattle.doc_book.specs.History.{scene_at}
+use Rattle.doc_book.specs.Document.{Document}
+use Rattle.doc_book.specs.Verdicts.{verdict}
+use Rattle.doc_book.proofs.Keeping.{few_moves}
+use Rattle.doc_book.proofs.Refusing.{not_ended, scene_accepts}
+use Rattle.doc_book.proofs.book.Book.scene_after.Goals as goal
+
+pub apply-requires-clause-accepted : goal.apply-requires-clause-accepted
+apply-requires-clause-accepted c =
+    let h = c.self.inside.history.items in
+    let accepted = ap (λ (d : Document). verdict d.history c.args.edit.now) c.self.view_is ∙ c.requires in
+    let scene_is : c.in_ok-scene.scene ≡ scene_at h = c.in_ok-scene.ensures ∙ c.self.invariant.scene_is in
+    ap (λ d. refusal_of d c.in_ok-copy.field-0) scene_is ∙ (ap (refusal_of (scene_at h)) c.in_ok-copy.ensures ∙ scene_accepts h c.args.edit.now accepted)
+
+pub apply-requires-clause-few : goal.apply-requires-clause-few
+apply-requires-clause-few c =
+    let h = c.self.inside.history.items in
+    let accepted = ap (λ (d : Document). verdict d.history c.args.edit.now) c.self.view_is ∙ c.requires in
+    subst (HasFewMoves 4294967294) (sym c.in_ok-scene.ensures)
+    (few_moves h c.self.inside.budget c.self.inside.scene c.self.inside.places c.self.inside.settled c.self.invariant (not_ended h c.args.edit.now accepted))
