@@ -1,6 +1,6 @@
 //! What no clause says: worked scripts from bytes to bytes, statuses with their texts, and one failing call of each end.
-use crate::{Outcome, Plan, run, run_alone};
-use byte_edge::{MemSink, MemSource, StdSink, StdSource, SureSink, SureSource};
+use crate::{Fault, Plan, run, run_alone};
+use byte_edge::{MemSink, MemSource, Sink, Source, StdSink, StdSource, SureSink, SureSource};
 use std::alloc::{AllocError, Global};
 use std::io;
 use std::test::Fail;
@@ -12,10 +12,64 @@ const FIRST_BOX_LISTING: &[u8] =
 
 const EMPTY_LISTING: &[u8] = b"listing 1\n0 0 0 end\n1 0 0 frame\nreplies\ndone\n";
 
+/// How a run ended.
+#[derive(Clone, Copy)]
+struct End {
+    status: u8,
+    fault: Option<Fault>,
+}
+
+/// The end of a run.
+fn end_of<R: AllocGlobal, S: Source, K: Sink>(
+    rt: &R,
+    words: Vec<String>,
+    source: &mut S,
+    sink: &mut K,
+) -> End {
+    let outcome = run(rt, words, source, sink);
+    End {
+        status: outcome.status,
+        fault: outcome.fault,
+    }
+}
+
+/// The end of a run without words over a source and a sink that never fail.
+fn played<R: AllocGlobal>(rt: &R, script: Vec<u8>, sink: &mut SureSink) -> End {
+    let mut source = SureSource::new(script);
+    end_of(rt, Vec::new(rt.alloc()), &mut source, sink)
+}
+
 /// The status and the text of the fault of a run that must fail.
-fn said(alloc: Global, outcome: &Outcome) -> Result<String, Fail> {
-    let fault = outcome.fault.ok_or("a fault")?;
-    Ok(format!(in alloc; "{} {fault}", outcome.status)?)
+fn said(alloc: Global, end: End) -> Result<String, Fail> {
+    let fault = end.fault.ok_or("a fault")?;
+    Ok(format!(in alloc; "{} {fault}", end.status)?)
+}
+
+/// Plays the script, which prints the listing.
+fn prints<R: AllocGlobal>(rt: &R, script: &[u8], listing: &[u8]) -> Result<(), Fail> {
+    let alloc = rt.alloc();
+    let mut sink = SureSink::new(alloc);
+    let end = played(rt, script.to_vec(alloc)?, &mut sink);
+    if end.status != 0 {
+        return Err("status 0".into());
+    }
+    if sink.bytes() != listing {
+        return Err("the listing".into());
+    }
+    Ok(())
+}
+
+/// Plays the bytes, which end the run with this status and text; nothing is written.
+fn fails<R: AllocGlobal>(rt: &R, script: Vec<u8>, text: &str) -> Result<(), Fail> {
+    let mut sink = SureSink::new(rt.alloc());
+    let end = played(rt, script, &mut sink);
+    if said(rt.alloc(), end)?.as_str() != text {
+        return Err("the status and the text".into());
+    }
+    if !sink.bytes().is_empty() {
+        return Err("nothing written".into());
+    }
+    Ok(())
 }
 
 // Session 2 puts and lays out, then session 1 finds nothing left to do: its layout comes last, so it sees all.
@@ -59,7 +113,6 @@ const EACH_EDIT_LISTING: &[u8] =
 
 #[test]
 fn worked_scripts(rt: HostRuntime) -> Result<(), Fail> {
-    let alloc = rt.alloc();
     for (script, listing) in [
         (FIRST_BOX, FIRST_BOX_LISTING),
         (b"dunnart 1\nend\n".as_slice(), EMPTY_LISTING),
@@ -70,11 +123,7 @@ fn worked_scripts(rt: HostRuntime) -> Result<(), Fail> {
         (OUT_OF_RANGE, OUT_OF_RANGE_LISTING),
         (EACH_EDIT, EACH_EDIT_LISTING),
     ] {
-        let mut source = SureSource::new(script.to_vec(alloc)?);
-        let mut sink = SureSink::new(alloc);
-        let outcome = run(&rt, Vec::new(alloc), &mut source, &mut sink);
-        assert_eq!(rt; outcome.status, 0);
-        assert_eq!(rt; sink.bytes(), listing);
+        prints(&rt, script, listing)?;
     }
     Ok(())
 }
@@ -83,26 +132,33 @@ fn worked_scripts(rt: HostRuntime) -> Result<(), Fail> {
 const NO_FRAMES_LISTING: &[u8] =
     b"listing 1\n0 1 2 box a 3 4 40 20\n1 0 0 end\n2 0 0 frame\nx a 3 3\ny a 4 4\nreplies\n1 2 box a 3 4 40 20 = accepted 0\n1 3 layout = spent 1\n1 4 layout = spent 1\ndone\n";
 
-#[test]
-fn no_frames(rt: HostRuntime) -> Result<(), Fail> {
-    let alloc = rt.alloc();
+/// The status of a run without frames before End.
+fn status_without_frames<R: AllocGlobal>(
+    rt: &R,
+    source: &mut SureSource,
+    sink: &mut SureSink,
+) -> u8 {
     let plan = Plan {
         workers: 0,
         frames: 0,
         svg: false,
         made: None,
     };
+    run_alone(rt, plan, source, sink).status
+}
+
+#[test]
+fn no_frames(rt: HostRuntime) -> Result<(), Fail> {
+    let alloc = rt.alloc();
     let mut source = SureSource::new(FIRST_BOX.to_vec(alloc)?);
     let mut sink = SureSink::new(alloc);
-    let outcome = run_alone(&rt, plan, &mut source, &mut sink);
-    assert_eq!(rt; outcome.status, 0);
+    assert_eq!(rt; status_without_frames(&rt, &mut source, &mut sink), 0);
     assert_eq!(rt; sink.bytes(), NO_FRAMES_LISTING);
     Ok(())
 }
 
 #[test]
 fn faulty_scripts(rt: HostRuntime) -> Result<(), Fail> {
-    let alloc = rt.alloc();
     let scripts = [
         (b"dunnart 1\n1 box a 0".as_slice(), "3 line 2: Cut"),
         (
@@ -125,11 +181,7 @@ fn faulty_scripts(rt: HostRuntime) -> Result<(), Fail> {
         (b"dunnart 1\nend\nx", "3 line 3: After"),
     ];
     for (script, text) in scripts {
-        let mut source = SureSource::new(script.to_vec(alloc)?);
-        let mut sink = SureSink::new(alloc);
-        let outcome = run(&rt, Vec::new(alloc), &mut source, &mut sink);
-        assert_eq!(rt; said(alloc, &outcome)?.as_str(), text);
-        assert_eq!(rt; sink.bytes(), [].as_slice());
+        fails(&rt, script.to_vec(rt.alloc())?, text)?;
     }
     Ok(())
 }
@@ -156,37 +208,34 @@ fn many_lines(alloc: Global) -> Result<Vec<u8>, AllocError> {
 
 #[test]
 fn long_scripts(rt: HostRuntime) -> Result<(), Fail> {
-    let alloc = rt.alloc();
-    let mut source = SureSource::new(long_line(alloc)?);
-    let mut sink = SureSink::new(alloc);
-    let outcome = run(&rt, Vec::new(alloc), &mut source, &mut sink);
-    assert_eq!(rt; said(alloc, &outcome)?.as_str(), "3 line 2: Long");
-    let mut source = SureSource::new(many_lines(alloc)?);
-    let outcome = run(&rt, Vec::new(alloc), &mut source, &mut sink);
-    assert_eq!(rt; said(alloc, &outcome)?.as_str(), "3 line 2002: TooMany");
-    assert_eq!(rt; sink.bytes(), [].as_slice());
-    Ok(())
+    fails(&rt, long_line(rt.alloc())?, "3 line 2: Long")?;
+    fails(&rt, many_lines(rt.alloc())?, "3 line 2002: TooMany")
 }
 
 #[test]
-fn failing_ends(rt: HostRuntime) -> Result<(), Fail> {
+fn a_failing_source(rt: HostRuntime) -> Result<(), Fail> {
     let alloc = rt.alloc();
     let mut source = MemSource::new(FIRST_BOX.to_vec(alloc)?, vec![in alloc; 1]?);
     let mut sink = SureSink::new(alloc);
-    let outcome = run(&rt, Vec::new(alloc), &mut source, &mut sink);
-    assert_eq!(rt; said(alloc, &outcome)?.as_str(), "4 source failed");
-    assert_eq!(rt; sink.bytes(), [].as_slice());
-
-    let mut source = SureSource::new(FIRST_BOX.to_vec(alloc)?);
-    let mut sink = MemSink::new(vec![in alloc; 1]?);
-    let outcome = run(&rt, Vec::new(alloc), &mut source, &mut sink);
-    assert_eq!(rt; said(alloc, &outcome)?.as_str(), "6 sink failed");
+    let end = end_of(&rt, Vec::new(alloc), &mut source, &mut sink);
+    assert_eq!(rt; said(alloc, end)?.as_str(), "4 source failed");
     assert_eq!(rt; sink.bytes(), [].as_slice());
     Ok(())
 }
 
 #[test]
-fn refused_words_and_long_input(rt: HostRuntime) -> Result<(), Fail> {
+fn a_failing_sink(rt: HostRuntime) -> Result<(), Fail> {
+    let alloc = rt.alloc();
+    let mut source = SureSource::new(FIRST_BOX.to_vec(alloc)?);
+    let mut sink = MemSink::new(vec![in alloc; 1]?);
+    let end = end_of(&rt, Vec::new(alloc), &mut source, &mut sink);
+    assert_eq!(rt; said(alloc, end)?.as_str(), "6 sink failed");
+    assert_eq!(rt; sink.bytes(), [].as_slice());
+    Ok(())
+}
+
+#[test]
+fn refused_words(rt: HostRuntime) -> Result<(), Fail> {
     let alloc = rt.alloc();
     let words = vec![in alloc;
         String::from_str(alloc, "dunnart")?,
@@ -194,21 +243,24 @@ fn refused_words_and_long_input(rt: HostRuntime) -> Result<(), Fail> {
     ]?;
     let mut source = SureSource::new(FIRST_BOX.to_vec(alloc)?);
     let mut sink = SureSink::new(alloc);
-    let outcome = run(&rt, words, &mut source, &mut sink);
-    assert_eq!(rt; said(alloc, &outcome)?.as_str(), "2 words refused");
-
-    let mut source = SureSource::new(vec![in alloc; b'a'; 1_048_577]?);
-    let outcome = run(&rt, Vec::new(alloc), &mut source, &mut sink);
-    assert_eq!(rt; said(alloc, &outcome)?.as_str(), "7 input too long");
+    let end = end_of(&rt, words, &mut source, &mut sink);
+    assert_eq!(rt; said(alloc, end)?.as_str(), "2 words refused");
+    assert_eq!(rt; sink.bytes(), [].as_slice());
     Ok(())
+}
+
+#[test]
+fn long_input(rt: HostRuntime) -> Result<(), Fail> {
+    let script = vec![in rt.alloc(); b'a'; 1_048_577]?;
+    fails(&rt, script, "7 input too long")
 }
 
 #[test]
 fn real_ends(rt: HostRuntime) -> Result<(), Fail> {
     let mut source = StdSource::new(rt.reader());
     let mut sink = StdSink::new(io::writer(&rt));
-    let outcome = run(&rt, Vec::new(rt.alloc()), &mut source, &mut sink);
+    let end = end_of(&rt, Vec::new(rt.alloc()), &mut source, &mut sink);
     // Without an input that can be read the status is 4.
-    assert!(rt; outcome.status == 3 || outcome.status == 4);
+    assert!(rt; end.status == 3 || end.status == 4);
     Ok(())
 }
