@@ -1,16 +1,20 @@
 //! The program: it reads an edit script from standard input and prints the listing of the document.
 #![tactic(auto)]
 
+ghost use Rattle.std.specs.Prelude.{◌≡◌};
+ghost use Rattle.std.specs.Process.{exit_status};
+
 use byte_edge::{StdSink, StdSource};
-use editor_run::{Fault, run};
+use editor_run::{Fault, Outcome, run};
+use std::io::ErrorKind;
 use std::process::ExitCode;
 use std::{env, io};
 
 /// Makes the source, the sink and the words, runs, prints a fault to standard error and ends with the status.
 fn main(rt: HostRuntime) -> ExitCode {
-    let Ok(words) = words(&rt) else {
-        let _ = eprintln!(rt; "{}", Fault::Memory);
-        return ExitCode::from(5);
+    let words = match words(&rt) {
+        Ok(words) => words,
+        Err(error) => return without_words(&rt, error.kind()),
     };
     let mut source = StdSource::new(rt.reader());
     let mut sink = StdSink::new(io::writer(&rt));
@@ -18,7 +22,7 @@ fn main(rt: HostRuntime) -> ExitCode {
     if let Some(fault) = outcome.fault {
         let _ = eprintln!(rt; "{fault}");
     }
-    ExitCode::from(outcome.status)
+    exit_code(&outcome)
 }
 
 /// The words of the command line, the program's name first.
@@ -28,4 +32,22 @@ fn words(rt: &HostRuntime) -> io::Result<Vec<String>> {
         words.push(word)?;
     }
     Ok(words)
+}
+
+/// Ends a run whose words couldn't be had: a word that isn't UTF-8 is refused, as every word is; else there was no
+/// memory for them.
+fn without_words(rt: &HostRuntime, kind: ErrorKind) -> ExitCode {
+    let (fault, status) = match kind {
+        ErrorKind::InvalidData => (Fault::Words, 2),
+        _ => (Fault::Memory, 5),
+    };
+    let _ = eprintln!(rt; "{fault}");
+    ExitCode::from(status)
+}
+
+/// The exit code of an outcome: its status.
+fn exit_code(outcome: &Outcome) -> ExitCode
+    ensures { exit_status result ≡ outcome.now.status }
+{
+    ExitCode::from(outcome.status)
 }
