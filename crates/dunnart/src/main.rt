@@ -1,16 +1,16 @@
 //! The program: it reads an edit script from standard input and prints the listing of the document.
 #![tactic(auto)]
 
-ghost use Rattle.std.specs.Prelude.{◌≡◌};
+ghost use Rattle.std.specs.Prelude.{◌≡◌, ◌<◌, vec_len};
 ghost use Rattle.std.specs.Process.{exit_status};
 
-use byte_edge::{StdSink, StdSource};
+use byte_edge::{Sink, Source, StdSink, StdSource};
 use editor_run::{Fault, Outcome, run};
 use std::io::ErrorKind;
 use std::process::ExitCode;
 use std::{env, io};
 
-/// Makes the source, the sink and the words, runs, prints a fault to standard error and ends with the status.
+/// Makes the source, the sink and the words, runs, and ends with the status.
 fn main(rt: HostRuntime) -> ExitCode {
     let words = match words(&rt) {
         Ok(words) => words,
@@ -18,7 +18,22 @@ fn main(rt: HostRuntime) -> ExitCode {
     };
     let mut source = StdSource::new(rt.reader());
     let mut sink = StdSink::new(io::writer(&rt));
-    let outcome = run(&rt, words, &mut source, &mut sink);
+    play(&rt, words, &mut source, &mut sink)
+}
+
+/// Runs, prints a fault to standard error, and gives the status of the run: 2, with nothing read and nothing written,
+/// where there is a word behind the program's name.
+fn play<S: Source, K: Sink>(
+    rt: &HostRuntime,
+    words: Vec<String>,
+    source: &mut S,
+    sink: &mut K,
+) -> ExitCode
+    ensures refused { 1 < vec_len words → exit_status result ≡ 2 }
+    ensures unread { 1 < vec_len words → source.new ≡ source.old }
+    ensures nothing_written { 1 < vec_len words → sink.new ≡ sink.old }
+{
+    let outcome = run(rt, words, source, sink);
     if let Some(fault) = outcome.fault {
         let _ = eprintln!(rt; "{fault}");
     }
