@@ -14,7 +14,7 @@ use Rattle.units.specs.Problem.{IsBounded}
 use Rattle.units.specs.declared.geometry.Axis.{Axis}
 use Rattle.units.specs.declared.geometry.Axis.TheVariants.{X, Y}
 use Rattle.scene_model.specs.Diagram.{Diagram}
-use Rattle.scene_model.specs.Sound.{IsWellFormed}
+use Rattle.scene_model.specs.Sound.{IsSound}
 use Rattle.scene_model.proofs.Bounds.{variables-count, variables-weighted}
 use Rattle.scene_model.specs.Variables.{variables}
 use Rattle.scene_model.specs.declared.variables.Variable.{Variable}
@@ -40,7 +40,7 @@ near_clamped : (vs : List ℤ) → AllByRecursion (λ d. nat_abs d ≤ 2000000) 
 near_clamped [] = tt
 near_clamped (v ∷ vs) = (omega (arith, clamped_near v), near_clamped vs)
 
-bounded : (scene : Diagram) (axis : Axis) (vs : List ℤ) → IsWellFormed scene → length (map clamped vs) ≡ length (variables scene axis) → IsBounded (problem_of scene axis (map clamped vs))
+bounded : (scene : Diagram) (axis : Axis) (vs : List ℤ) → IsSound scene → length (map clamped vs) ≡ length (variables scene axis) → IsBounded (problem_of scene axis (map clamped vs))
 bounded scene axis vs sound as_long =
     let few = variables-count {d = scene} axis sound in
     record {
@@ -104,7 +104,7 @@ fits_all scene axis desired as_long placement placed = (
   λ fits k d below. absurd (omega (arith, below)),
 )
 
-pub is_shown : (scene : Diagram) (axis : Axis) (vs : List ℤ) → IsWellFormed scene → length vs ≡ length (variables scene axis) → IsShown scene axis (map clamped vs) (at_rest (map clamped vs))
+pub is_shown : (scene : Diagram) (axis : Axis) (vs : List ℤ) → IsSound scene → length vs ≡ length (variables scene axis) → IsShown scene axis (map clamped vs) (at_rest (map clamped vs))
 is_shown scene axis vs sound same =
     let as_long = length-map vs clamped ∙ same in
     let shown = at_rest_shows scene axis vs in
@@ -118,7 +118,7 @@ is_shown scene axis vs sound same =
     }
 
 pub is_frame : (scene : Diagram) (places : Places) (xs ys : List ℤ) (x y : Certificate)
-    → IsWellFormed scene → length places.x ≡ length (variables scene X) → length places.y ≡ length (variables scene Y)
+    → IsSound scene → length places.x ≡ length (variables scene X) → length places.y ≡ length (variables scene Y)
     → xs ≡ map clamped places.x → ys ≡ map clamped places.y → x ≡ at_rest xs → y ≡ at_rest ys
     → IsFrameOf scene places (record { desired = record { x = xs; y = ys }; x = x; y = y })
 is_frame scene places xs ys x y sound on_x on_y xs_are ys_are x_is y_is = record {

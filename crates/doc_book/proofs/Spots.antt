@@ -19,7 +19,7 @@ use Rattle.scene_model.specs.declared.variables.VariableName.TheVariants.{OfItem
 use Rattle.scene_model.specs.Names.{NameOf, same_name, same_axis}
 use Rattle.scene_model.specs.Diagram.{Diagram, shape_names}
 use Rattle.scene_model.specs.Items.{item_named, sort_named, thing_found, thing_named}
-use Rattle.scene_model.specs.Variables.{variables, number_named, same_variable, shape_variable, guide_variable, guides_on, group_variables, page_variables}
+use Rattle.scene_model.specs.Variables.{variables, variable_number, same_variable, shape_variable, guide_variable, guides_on, group_variables, page_variables}
 use Rattle.scene_model.proofs.Named.{is_some-position}
 use Rattle.scene_model.proofs.Places.{sort_stands, thing_found_is, found_as}
 
@@ -40,7 +40,7 @@ any-behind {A} p (x ∷ xs) ys is = by (p x) (any-behind p xs ys is)
     by false rest = rest
 
 -- a variable that is among those of the axis is found
-found : (scene : Diagram) (axis : Axis) (name : VariableName) → list_any (λ (v : Variable). same_variable name v.name) (variables scene axis) ≡ true → IsSome (number_named scene axis name)
+found : (scene : Diagram) (axis : Axis) (name : VariableName) → list_any (λ (v : Variable). same_variable name v.name) (variables scene axis) ≡ true → IsSome (variable_number scene axis name)
 found scene axis name any = is_some-position (λ (v : Variable). same_variable name v.name) (variables scene axis) ∙ any
 
 -- where an item of a name stands, so does its variable
@@ -66,37 +66,37 @@ is_of name v = same_variable name v.name
 
 -- a variable among those of one sort is among those of the axis
 module _ (scene : Diagram) (axis : Axis) (name : VariableName) where
-  of_shapes : list_any (is_of name) (map (shape_variable axis) scene.shapes) ≡ true → IsSome (number_named scene axis name)
+  of_shapes : list_any (is_of name) (map (shape_variable axis) scene.shapes) ≡ true → IsSome (variable_number scene axis name)
   of_shapes any =
       found scene axis name
       (any-front (is_of name) (map (shape_variable axis) scene.shapes ++ map guide_variable (guides_on axis scene.guides) ++ flat_map (group_variables axis) scene.groups) (flat_map (page_variables axis) scene.pages)
       (any-front (is_of name) (map (shape_variable axis) scene.shapes ++ map guide_variable (guides_on axis scene.guides)) (flat_map (group_variables axis) scene.groups)
       (any-front (is_of name) (map (shape_variable axis) scene.shapes) (map guide_variable (guides_on axis scene.guides)) any)))
 
-  of_guides : list_any (is_of name) (map guide_variable (guides_on axis scene.guides)) ≡ true → IsSome (number_named scene axis name)
+  of_guides : list_any (is_of name) (map guide_variable (guides_on axis scene.guides)) ≡ true → IsSome (variable_number scene axis name)
   of_guides any =
       found scene axis name
       (any-front (is_of name) (map (shape_variable axis) scene.shapes ++ map guide_variable (guides_on axis scene.guides) ++ flat_map (group_variables axis) scene.groups) (flat_map (page_variables axis) scene.pages)
       (any-front (is_of name) (map (shape_variable axis) scene.shapes ++ map guide_variable (guides_on axis scene.guides)) (flat_map (group_variables axis) scene.groups)
       (any-behind (is_of name) (map (shape_variable axis) scene.shapes) (map guide_variable (guides_on axis scene.guides)) any)))
 
-  of_groups : list_any (is_of name) (flat_map (group_variables axis) scene.groups) ≡ true → IsSome (number_named scene axis name)
+  of_groups : list_any (is_of name) (flat_map (group_variables axis) scene.groups) ≡ true → IsSome (variable_number scene axis name)
   of_groups any =
       found scene axis name
       (any-front (is_of name) (map (shape_variable axis) scene.shapes ++ map guide_variable (guides_on axis scene.guides) ++ flat_map (group_variables axis) scene.groups) (flat_map (page_variables axis) scene.pages)
       (any-behind (is_of name) (map (shape_variable axis) scene.shapes ++ map guide_variable (guides_on axis scene.guides)) (flat_map (group_variables axis) scene.groups) any))
 
-  of_pages : list_any (is_of name) (flat_map (page_variables axis) scene.pages) ≡ true → IsSome (number_named scene axis name)
+  of_pages : list_any (is_of name) (flat_map (page_variables axis) scene.pages) ≡ true → IsSome (variable_number scene axis name)
   of_pages any =
       found scene axis name
       (any-behind (is_of name) (map (shape_variable axis) scene.shapes ++ map guide_variable (guides_on axis scene.guides) ++ flat_map (group_variables axis) scene.groups) (flat_map (page_variables axis) scene.pages) any)
 
 -- a shape has a variable on each axis
-pub shape_has_variable : (scene : Diagram) (axis : Axis) (name : NameOf) → sort_named scene name ≡ Some sort.Shape → IsSome (number_named scene axis (OfItem name))
+pub shape_has_variable : (scene : Diagram) (axis : Axis) (name : NameOf) → sort_named scene name ≡ Some sort.Shape → IsSome (variable_number scene axis (OfItem name))
 shape_has_variable scene axis name stands = of_shapes scene axis (OfItem name) (any-shapes axis name scene.shapes ∙ sort_stands scene name sort.Shape stands)
 
 -- a guideline has one on its own
-pub guide_has_variable : (scene : Diagram) (name : NameOf) (g : Guide) → thing_named scene name ≡ Some (thing.Guide g) → IsSome (number_named scene g.axis (OfItem name))
+pub guide_has_variable : (scene : Diagram) (name : NameOf) (g : Guide) → thing_named scene name ≡ Some (thing.Guide g) → IsSome (variable_number scene g.axis (OfItem name))
 guide_has_variable scene name g found =
     let x = thing_found_is scene name (thing.Guide g) found in
     of_guides scene g.axis (OfItem name) (among scene.guides x.at (found_as thing.Guide (λ a b e. cc) (slice_get scene.guides x.at) g x.there) x.named)
@@ -119,14 +119,14 @@ guide_has_variable scene name g found =
         by false rest = rest
 
 -- a group has its edges on each axis, and so has a page
-pub group_has_variables : (scene : Diagram) (axis : Axis) (name : NameOf) → sort_named scene name ≡ Some sort.Group → IsSome (number_named scene axis (LowEdge name)) × IsSome (number_named scene axis (HighEdge name))
+pub group_has_variables : (scene : Diagram) (axis : Axis) (name : NameOf) → sort_named scene name ≡ Some sort.Group → IsSome (variable_number scene axis (LowEdge name)) × IsSome (variable_number scene axis (HighEdge name))
 group_has_variables scene axis name stands =
     let among = sort_stands scene name sort.Group stands in (
       of_groups scene axis (LowEdge name) (any-parts (λ (g : Group). g.name) (group_variables axis) (LowEdge name) name (λ g is. ap (λ b. b || false) is) scene.groups among),
       of_groups scene axis (HighEdge name) (any-parts (λ (g : Group). g.name) (group_variables axis) (HighEdge name) name (λ g is. ap (λ b. b || false) is) scene.groups among),
     )
 
-pub page_has_variables : (scene : Diagram) (axis : Axis) (name : NameOf) → sort_named scene name ≡ Some sort.Page → IsSome (number_named scene axis (LowEdge name)) × IsSome (number_named scene axis (HighEdge name))
+pub page_has_variables : (scene : Diagram) (axis : Axis) (name : NameOf) → sort_named scene name ≡ Some sort.Page → IsSome (variable_number scene axis (LowEdge name)) × IsSome (variable_number scene axis (HighEdge name))
 page_has_variables scene axis name stands =
     let among = sort_stands scene name sort.Page stands in (
       of_pages scene axis (LowEdge name) (any-parts (λ (p : Page). p.name) (page_variables axis) (LowEdge name) name (λ p is. ap (λ b. b || false) is) scene.pages among),
@@ -135,7 +135,7 @@ page_has_variables scene axis name stands =
 
 -- a group or page has its low and its high edge on each axis
 pub area_has_variables : (scene : Diagram) (axis : Axis) (name : NameOf) → (sort_named scene name ≡ Some sort.Group) ⊎ (sort_named scene name ≡ Some sort.Page)
-    → IsSome (number_named scene axis (LowEdge name)) × IsSome (number_named scene axis (HighEdge name))
+    → IsSome (variable_number scene axis (LowEdge name)) × IsSome (variable_number scene axis (HighEdge name))
 area_has_variables scene axis name stands = ⊎_elim (group_has_variables scene axis name) (page_has_variables scene axis name) stands
 
 -- the guideline that a name finds, whole

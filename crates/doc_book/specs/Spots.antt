@@ -11,7 +11,7 @@ use Rattle.scene_model.specs.declared.variables.VariableName.TheVariants.{OfItem
 use Rattle.scene_model.specs.Names.{NameOf, along}
 use Rattle.scene_model.specs.Diagram.{Diagram}
 use Rattle.scene_model.specs.Items.{sort_named, thing_named}
-use Rattle.scene_model.specs.Variables.{number_named}
+use Rattle.scene_model.specs.Variables.{variable_number}
 use Rattle.edit_rules.specs.declared.refusals.Refusal.{Refusal}
 use Rattle.edit_rules.specs.declared.refusals.Refusal.TheVariants as refusal
 use Rattle.frame_store.specs.declared.places.Places.{Places}
@@ -20,7 +20,7 @@ use Rattle.doc_book.specs.declared.asking.Spot.TheVariants as spot
 
 -- the variable of a name has this place, among those of its axis, in whole diagram units
 abbrev pub IsPlaceOf : Diagram → Axis → List ℤ → VariableName → ℤ → Type 0
-IsPlaceOf scene axis places name at = (number : ℕ) × (number_named scene axis name ≡ Some number) × (slice_get places number ≡ Some at)
+IsPlaceOf scene axis places name at = (number : ℕ) × (variable_number scene axis name ≡ Some number) × (slice_get places number ≡ Some at)
 
 -- a guideline of the name and axis stands
 abbrev pub IsGuideOf : Diagram → NameOf → Axis → Type 0

@@ -4,7 +4,7 @@ ghost use Rattle.units.specs.declared.geometry.Axis.TheVariants as axes;
 ghost use Rattle.scene_model.specs.declared.items.Sort.TheVariants as sort;
 ghost use Rattle.scene_model.specs.Names.{along};
 ghost use Rattle.scene_model.specs.Items.{item_named, sort_named};
-ghost use Rattle.scene_model.specs.Variables.{variables, number_named};
+ghost use Rattle.scene_model.specs.Variables.{variables, variable_number};
 ghost use Rattle.doc_book.specs.History.{scene_at, places_at};
 ghost use Rattle.doc_book.specs.Spots.{IsPlaceOf, IsSpot, ask_refusal};
 
@@ -126,7 +126,7 @@ fn area_spot(scene: &Scene, places: &Places, name: &Name) -> Spot
 
 /// The place of the variable of this name, among those of its axis.
 fn place(scene: &Scene, axis: Axis, places: &Places, name: &VariableName) -> i64
-    requires stands { IsSome (number_named scene.now axis name.now) }
+    requires stands { IsSome (variable_number scene.now axis name.now) }
     requires on_x { length places.now.x ≡ length (variables scene.now axes.X) }
     requires on_y { length places.now.y ≡ length (variables scene.now axes.Y) }
     ensures { IsPlaceOf scene.now axis (along axis places.now.x places.now.y) name.now result }
@@ -138,10 +138,10 @@ fn place(scene: &Scene, axis: Axis, places: &Places, name: &VariableName) -> i64
 }
 
 fn place_among(scene: &Scene, axis: Axis, places: &[i64], name: &VariableName) -> i64
-    requires stands { IsSome (number_named scene.now axis name.now) }
+    requires stands { IsSome (variable_number scene.now axis name.now) }
     requires as_long { length places.now ≡ length (variables scene.now axis) }
     ensures { IsPlaceOf scene.now axis places.now name.now result }
 {
-    let number = scene.variable_named(axis, name).unwrap();
+    let number = scene.variable_number(axis, name).unwrap();
     places[usize::from(number)]
 }

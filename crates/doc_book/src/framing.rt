@@ -2,7 +2,7 @@
 ghost use Rattle.std.specs.Prelude.{◌≡◌, [], IfOk, length, map};
 ghost use Rattle.units.specs.Number.{clamped};
 ghost use Rattle.units.specs.declared.geometry.Axis.TheVariants as axes;
-ghost use Rattle.scene_model.specs.Sound.{IsWellFormed};
+ghost use Rattle.scene_model.specs.Sound.{IsSound};
 ghost use Rattle.scene_model.specs.Variables.{variables};
 ghost use Rattle.frac128.specs.Fraction.{whole};
 ghost use Rattle.doc_book.specs.Frames.{IsFrameOf};

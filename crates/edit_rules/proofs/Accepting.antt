@@ -13,11 +13,11 @@ use Rattle.scene_model.specs.declared.items.Thing.TheVariants as thing
 use Rattle.scene_model.specs.Names.{NameOf, same_name}
 use Rattle.scene_model.specs.Diagram.{Diagram, most_of, all_sorts}
 use Rattle.scene_model.specs.Uses.{Use, stands_as, IsUser, most_members, user_of}
-use Rattle.scene_model.specs.Sound.{IsWellFormed, IsCoordinate}
+use Rattle.scene_model.specs.Sound.{IsSound, IsCoordinate}
 use Rattle.scene_model.specs.Items.{stands, count_of, item_named, sort_named, thing_named, thing_found, name_of_thing, sort_of, IsThing, HasRoomFor, without}
 use Rattle.scene_model.proofs.Named.{same_name-sym}
 use Rattle.scene_model.proofs.Places.{item_found, sort_at, thing_found_is, is_some-in}
-use Rattle.scene_model.proofs.Sound.{unused, IsUnused, IsFree, IsFree-unused, IsWellFormed-without}
+use Rattle.scene_model.proofs.Sound.{unused, IsUnused, IsFree, IsFree-unused, IsSound-without}
 use Rattle.edit_rules.specs.declared.edits.Edit.{Edit}
 use Rattle.edit_rules.specs.declared.edits.Edit.TheVariants as edit
 use Rattle.edit_rules.specs.declared.ranges.Ranged.{Ranged}
@@ -155,7 +155,7 @@ is_coordinate : (z : ℤ) → is_outside (coordinate z) ≡ false → IsCoordina
 is_coordinate z within = let range = in_range (coordinate z) within in omega (arith, ints, range.0, range.1)
 
 -- a new item is sound
-pub made_sound : (d : Diagram) (e : Edit) (t : Thing) → made d e ≡ Some t → IsAccepted d e → IsWellFormed d → IsThing d t
+pub made_sound : (d : Diagram) (e : Edit) (t : Thing) → made d e ≡ Some t → IsAccepted d e → IsSound d → IsThing d t
 made_sound d e t is ok sound = subst (λ o. IfSome o (IsThing d)) is (by e (inside e ok.range) (λ u at. made_user d e u at ok))
   where
     by : (e : Edit) → AllByRecursion (λ r. is_outside r ≡ false) (numbers e) → ((u : Thing) → made d e ≡ Some u → IsUser d.shapes d.guides (uses_of u) (row_of u)) → IfSome (made d e) (IsThing d)
@@ -231,20 +231,20 @@ sort_is_standing d n s at = sym (is_some-in d n all_sorts) ∙ by (item_named d 
     by (Some item) e = refl
 
 -- an item that an edit takes away is free to go
-taken_away : (d : Diagram) (e : Edit) (n : NameOf) → old_name e ≡ Some n → ((t : Thing) → name_of_thing t ≡ n → may_change e (sort_of t) ≡ true → IsFree d t) → IsAccepted d e → IsWellFormed d
-    → (stands d n ≡ true) × IsWellFormed (without d n)
+taken_away : (d : Diagram) (e : Edit) (n : NameOf) → old_name e ≡ Some n → ((t : Thing) → name_of_thing t ≡ n → may_change e (sort_of t) ≡ true → IsFree d t) → IsAccepted d e → IsSound d
+    → (stands d n ≡ true) × IsSound (without d n)
 taken_away d e n is free ok sound =
     let x = subject d e n is ok in
     let t = whole d n x.0 x.1 in
     let found = thing_found_is d n t.0 t.1 in
-    (sort_is_standing d n x.0 x.1, IsWellFormed-without d n t.0 sound t.1 (free t.0 found.named (ap (may_change e) (sym t.2) ∙ x.2)))
+    (sort_is_standing d n x.0 x.1, IsSound-without d n t.0 sound t.1 (free t.0 found.named (ap (may_change e) (sym t.2) ∙ x.2)))
 
-pub remove_fits : (d : Diagram) (n : NameOf) → IsAccepted d (edit.Remove n) → IsWellFormed d → (stands d n ≡ true) × IsWellFormed (without d n)
+pub remove_fits : (d : Diagram) (n : NameOf) → IsAccepted d (edit.Remove n) → IsSound d → (stands d n ≡ true) × IsSound (without d n)
 remove_fits d n ok sound =
     let none = unused d n (nothing refusal.InUse (user_of d n) ok.in_use) in
     taken_away d (edit.Remove n) n refl (λ t named may. IsFree-unused d t (subst (IsUnused d) (sym named) none)) ok sound
 
-pub unlink_fits : (d : Diagram) (n : NameOf) → IsAccepted d (edit.Unlink n) → IsWellFormed d → (stands d n ≡ true) × IsWellFormed (without d n)
+pub unlink_fits : (d : Diagram) (n : NameOf) → IsAccepted d (edit.Unlink n) → IsSound d → (stands d n ≡ true) × IsSound (without d n)
 unlink_fits d n ok sound = taken_away d (edit.Unlink n) n refl free ok sound
   where
     free : (t : Thing) → name_of_thing t ≡ n → may_change (edit.Unlink n) (sort_of t) ≡ true → IsFree d t
@@ -255,7 +255,7 @@ unlink_fits d n ok sound = taken_away d (edit.Unlink n) n refl free ok sound
     free (thing.Group g) named may = tt
     free (thing.Page p) named may = tt
 
-pub drop_fits : (d : Diagram) (n : NameOf) → IsAccepted d (edit.Drop n) → IsWellFormed d → (stands d n ≡ true) × IsWellFormed (without d n)
+pub drop_fits : (d : Diagram) (n : NameOf) → IsAccepted d (edit.Drop n) → IsSound d → (stands d n ≡ true) × IsSound (without d n)
 drop_fits d n ok sound = taken_away d (edit.Drop n) n refl free ok sound
   where
     free : (t : Thing) → name_of_thing t ≡ n → may_change (edit.Drop n) (sort_of t) ≡ true → IsFree d t

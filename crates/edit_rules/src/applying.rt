@@ -8,7 +8,7 @@ ghost use Rattle.scene_model.specs.declared.items.Sort.TheVariants as sorts;
 ghost use Rattle.scene_model.specs.declared.items.Thing.TheVariants.{Shape as ThingShape, Guide as ThingGuide};
 ghost use Rattle.scene_model.specs.declared.items.Shape.{Shape as ShapeValue};
 ghost use Rattle.scene_model.specs.declared.items.Guide.{Guide as GuideValue};
-ghost use Rattle.scene_model.specs.Sound.{IsCoordinate, IsExtent, IsShape, IsWellFormed};
+ghost use Rattle.scene_model.specs.Sound.{IsCoordinate, IsExtent, IsShape, IsSound};
 ghost use Rattle.scene_model.specs.Items.{stands, sort_named, thing_named, with_thing, with_replaced, without, IsThing, HasRoomFor, name_of_thing};
 ghost use Rattle.scene_model.specs.Variables.{low, high};
 ghost use Rattle.edit_rules.specs.Effects.{least, greatest, member_shapes, low_corner, high_corner, group_around, made, changed, with_shape, with_guide, edited, HasFewMoves};
@@ -428,7 +428,7 @@ fn shift(scene: &mut Scene, name: &Name, at: i32)
 /// Takes the item of this name away, which stands and is free to go.
 fn remove(scene: &mut Scene, name: &Name)
     requires stands { stands scene.old name.now ≡ true }
-    requires sound { IsWellFormed (without scene.old name.now) }
+    requires sound { IsSound (without scene.old name.now) }
     ensures { scene.new ≡ without scene.old name.now }
 {
     let _removed = scene.take(name);

@@ -49,7 +49,7 @@ fn kept(before: &Scene, axis: Axis, places: &[i64], variable: Variable) -> i64
     requires { length places.now ≡ length (variables before.now axis) }
     ensures { result ≡ kept_place (variables before.now axis) places.now variable }
 {
-    let Some(at) = before.variable_named(axis, &variable.name) else {
+    let Some(at) = before.variable_number(axis, &variable.name) else {
         return variable.anchor;
     };
     let stood = before.variable(axis, at);

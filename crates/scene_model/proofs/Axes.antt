@@ -16,7 +16,7 @@ use Rattle.scene_model.specs.declared.variables.VariableName.{VariableName}
 use Rattle.scene_model.specs.declared.variables.VariableName.TheVariants.{OfItem, LowEdge, HighEdge}
 use Rattle.scene_model.specs.Names.{NameOf, same_name, same_axis}
 use Rattle.scene_model.specs.Diagram.{Diagram, shape_names, guide_names, group_names, page_names}
-use Rattle.scene_model.specs.Variables.{variables, same_variable, shape_variable, guide_variable, group_variables, page_variables, guides_on, number_named}
+use Rattle.scene_model.specs.Variables.{variables, same_variable, shape_variable, guide_variable, group_variables, page_variables, guides_on, variable_number}
 use Rattle.scene_model.proofs.Positions.{position-next, position-append, position-agree, position-no_part, position-nowhere, position-inside, position-pairs, length-pairs, slice_get-front, slice_get-behind, slice_get-pairs, drop-get}
 
 -- the variables of the edges: those of the groups, then those of the page
@@ -24,8 +24,8 @@ abbrev pub edges : Diagram → Axis → List Variable
 edges d axis = flat_map (group_variables axis) d.groups ++ flat_map (page_variables axis) d.pages
 
 -- the names of what has edges
-abbrev pub frame_names : Diagram → List NameOf
-frame_names d = group_names d.groups ++ page_names d.pages
+abbrev pub area_names : Diagram → List NameOf
+area_names d = group_names d.groups ++ page_names d.pages
 
 -- the variables, part behind part
 abbrev parts : Diagram → Axis → List Variable
@@ -37,6 +37,10 @@ variables-parts d axis =
   where
     by : (a b c e : List Variable) → ((a ++ b) ++ c) ++ e ≡ a ++ (b ++ (c ++ e))
     by a b c e = simp append_assoc
+
+-- the variables of the shapes stand in front
+pub variables-front : (d : Diagram) (axis : Axis) → (rest : List Variable) × (variables d axis ≡ map (shape_variable axis) d.shapes ++ rest)
+variables-front d axis = (map guide_variable (guides_on axis d.guides) ++ edges d axis, variables-parts d axis)
 
 -- ---- the guidelines of an axis
 
@@ -175,7 +179,7 @@ has name v = same_variable name v.name
 
 -- the first place in the three parts
 number-parts : (d : Diagram) (axis : Axis) (name : VariableName)
-    → number_named d axis name
+    → variable_number d axis name
     ≡ option_or (position (has name) (map (shape_variable axis) d.shapes))
     (option_map (λ k. length d.shapes + k) (option_or (position (has name) (map guide_variable (guides_on axis d.guides)))
     (option_map (λ k. length (guides_on axis d.guides) + k) (position (has name) (edges d axis)))))
@@ -197,7 +201,7 @@ item-no_edge d axis n =
 
 -- the number of a shape or guideline
 pub item_number : (d : Diagram) (axis : Axis) (n : NameOf)
-    → number_named d axis (OfItem n)
+    → variable_number d axis (OfItem n)
     ≡ option_or (position (same_name n) (shape_names d.shapes)) (option_map (λ k. length d.shapes + k) (position (same_name n) (guide_names (guides_on axis d.guides))))
 item_number d axis n =
     number-parts d axis (OfItem n)
@@ -248,7 +252,7 @@ pair-of n m high (a ∷ b ∷ []) named =
 pair-of n m high (a ∷ b ∷ c ∷ vs) named = cc
 
 -- the place of an edge among the edges
-edge-place : (d : Diagram) (axis : Axis) (n : NameOf) (high : Bool) → position (has (edge_name n high)) (edges d axis) ≡ option_map (λ k. 2 * k + cond high 1 0) (position (same_name n) (frame_names d))
+edge-place : (d : Diagram) (axis : Axis) (n : NameOf) (high : Bool) → position (has (edge_name n high)) (edges d axis) ≡ option_map (λ k. 2 * k + cond high 1 0) (position (same_name n) (area_names d))
 edge-place d axis n high =
     let size = length-pairs (group_variables axis) (λ g. refl) d.groups in
     let names = length-map d.groups (λ (g : Group). g.name) in
@@ -272,8 +276,8 @@ edge-no_item n m false = refl
 
 -- the number of an edge
 pub edge_number : (d : Diagram) (axis : Axis) (n : NameOf) (high : Bool)
-    → number_named d axis (if high then HighEdge n else LowEdge n)
-    ≡ option_map (λ k. length d.shapes + length (guides_on axis d.guides) + (2 * k + cond high 1 0)) (position (same_name n) (frame_names d))
+    → variable_number d axis (if high then HighEdge n else LowEdge n)
+    ≡ option_map (λ k. length d.shapes + length (guides_on axis d.guides) + (2 * k + cond high 1 0)) (position (same_name n) (area_names d))
 edge_number d axis n high =
     number-parts d axis (edge_name n high)
     ∙ (ap (λ o. option_or o (option_map (λ k. length d.shapes + k) (option_or (position (has (edge_name n high)) (map guide_variable (guides_on axis d.guides))) (option_map (λ k. length (guides_on axis d.guides) + k) (position (has (edge_name n high)) (edges d axis))))))
@@ -281,57 +285,57 @@ edge_number d axis n high =
     ∙ (ap (λ o. option_map (λ k. length d.shapes + k) (option_or o (option_map (λ k. length (guides_on axis d.guides) + k) (position (has (edge_name n high)) (edges d axis)))))
     (position-nowhere guide_variable (has (edge_name n high)) (λ g. edge-no_item n g.name high) (guides_on axis d.guides))
     ∙ (ap (λ o. option_map (λ k. length d.shapes + k) (option_map (λ k. length (guides_on axis d.guides) + k) o)) (edge-place d axis n high)
-    ∙ by (length d.shapes) (length (guides_on axis d.guides)) (cond high 1 0) (position (same_name n) (frame_names d)))))
+    ∙ by (length d.shapes) (length (guides_on axis d.guides)) (cond high 1 0) (position (same_name n) (area_names d)))))
   where
     by : (s g r : ℕ) (o : Option ℕ) → option_map (λ k. s + k) (option_map (λ k. g + k) (option_map (λ k. 2 * k + r) o)) ≡ option_map (λ k. s + g + (2 * k + r)) o
     by s g r (Some k) = ap Some (omega arith)
     by s g r None = refl
 
 -- what a name finds, part by part
-pub shape_found : (d : Diagram) (axis : Axis) (n : NameOf) (at : ℕ) → position (same_name n) (shape_names d.shapes) ≡ Some at → Some at ≡ number_named d axis (OfItem n)
+pub shape_found : (d : Diagram) (axis : Axis) (n : NameOf) (at : ℕ) → position (same_name n) (shape_names d.shapes) ≡ Some at → Some at ≡ variable_number d axis (OfItem n)
 shape_found d axis n at there =
     sym (item_number d axis n ∙ ap (λ o. option_or o (option_map (λ k. length d.shapes + k) (position (same_name n) (guide_names (guides_on axis d.guides))))) there)
 
 pub guide_found : (d : Diagram) (axis : Axis) (n : NameOf) (number : Option ℕ) → position (same_name n) (shape_names d.shapes) ≡ None → position (same_name n) (guide_names (guides_on axis d.guides)) ≡ number
-    → option_map (λ k. length d.shapes + k) number ≡ number_named d axis (OfItem n)
+    → option_map (λ k. length d.shapes + k) number ≡ variable_number d axis (OfItem n)
 guide_found d axis n number no_shape there =
     sym (item_number d axis n
     ∙ (ap (λ o. option_or o (option_map (λ k. length d.shapes + k) (position (same_name n) (guide_names (guides_on axis d.guides))))) no_shape
     ∙ ap (option_map (λ k. length d.shapes + k)) there))
 
-edge_found : (d : Diagram) (axis : Axis) (n : NameOf) (high : Bool) (frame var : ℕ) → position (same_name n) (frame_names d) ≡ Some frame → var ≡ length d.shapes + length (guides_on axis d.guides) + 2 * frame + cond high 1 0
-    → Some var ≡ number_named d axis (if high then HighEdge n else LowEdge n)
-edge_found d axis n high frame var there split =
-    let sum : var ≡ length d.shapes + length (guides_on axis d.guides) + (2 * frame + cond high 1 0) = omega arith in
+edge_found : (d : Diagram) (axis : Axis) (n : NameOf) (high : Bool) (area var : ℕ) → position (same_name n) (area_names d) ≡ Some area → var ≡ length d.shapes + length (guides_on axis d.guides) + 2 * area + cond high 1 0
+    → Some var ≡ variable_number d axis (if high then HighEdge n else LowEdge n)
+edge_found d axis n high area var there split =
+    let sum : var ≡ length d.shapes + length (guides_on axis d.guides) + (2 * area + cond high 1 0) = omega arith in
     ap Some sum ∙ sym (edge_number d axis n high ∙ ap (option_map (λ k. length d.shapes + length (guides_on axis d.guides) + (2 * k + cond high 1 0))) there)
 
-pub high_found : (d : Diagram) (axis : Axis) (n : NameOf) (high : Bool) (frame var : ℕ) → high ≡ true → position (same_name n) (frame_names d) ≡ Some frame → var ≡ length d.shapes + length (guides_on axis d.guides) + 2 * frame + 1
-    → Some var ≡ number_named d axis (if high then HighEdge n else LowEdge n)
-high_found d axis n high frame var is_high there split =
+pub high_found : (d : Diagram) (axis : Axis) (n : NameOf) (high : Bool) (area var : ℕ) → high ≡ true → position (same_name n) (area_names d) ≡ Some area → var ≡ length d.shapes + length (guides_on axis d.guides) + 2 * area + 1
+    → Some var ≡ variable_number d axis (if high then HighEdge n else LowEdge n)
+high_found d axis n high area var is_high there split =
     let one : cond {A = ℕ} high 1 0 ≡ 1 = ap (λ (b : Bool). cond {A = ℕ} b 1 0) is_high in
-    edge_found d axis n high frame var there (omega arith)
+    edge_found d axis n high area var there (omega arith)
 
-pub low_found : (d : Diagram) (axis : Axis) (n : NameOf) (high : Bool) (frame var : ℕ) → high ≡ false → position (same_name n) (frame_names d) ≡ Some frame → var ≡ length d.shapes + length (guides_on axis d.guides) + 2 * frame
-    → Some var ≡ number_named d axis (if high then HighEdge n else LowEdge n)
-low_found d axis n high frame var is_low there split =
+pub low_found : (d : Diagram) (axis : Axis) (n : NameOf) (high : Bool) (area var : ℕ) → high ≡ false → position (same_name n) (area_names d) ≡ Some area → var ≡ length d.shapes + length (guides_on axis d.guides) + 2 * area
+    → Some var ≡ variable_number d axis (if high then HighEdge n else LowEdge n)
+low_found d axis n high area var is_low there split =
     let none : cond {A = ℕ} high 1 0 ≡ 0 = ap (λ (b : Bool). cond {A = ℕ} b 1 0) is_low in
-    edge_found d axis n high frame var there (omega arith)
+    edge_found d axis n high area var there (omega arith)
 
-pub edge_missed : (d : Diagram) (axis : Axis) (n : NameOf) (high : Bool) → position (same_name n) (frame_names d) ≡ None → None ≡ number_named d axis (if high then HighEdge n else LowEdge n)
+pub edge_missed : (d : Diagram) (axis : Axis) (n : NameOf) (high : Bool) → position (same_name n) (area_names d) ≡ None → None ≡ variable_number d axis (if high then HighEdge n else LowEdge n)
 edge_missed d axis n high none =
     sym (edge_number d axis n high ∙ ap (option_map (λ k. length d.shapes + length (guides_on axis d.guides) + (2 * k + cond high 1 0))) none)
 
 -- a number that was found lies below the count
-pub number_within : (d : Diagram) (axis : Axis) (name : VariableName) (var : ℕ) → Some var ≡ number_named d axis name → var < length (variables d axis)
+pub number_within : (d : Diagram) (axis : Axis) (name : VariableName) (var : ℕ) → Some var ≡ variable_number d axis name → var < length (variables d axis)
 number_within d axis name var found = position-inside (has name) (variables d axis) var (sym found)
 
 -- the place of the name of a group or page among both
-pub group_found : (d : Diagram) (n : NameOf) (at : ℕ) → position (same_name n) (group_names d.groups) ≡ Some at → Some at ≡ position (same_name n) (frame_names d)
+pub group_found : (d : Diagram) (n : NameOf) (at : ℕ) → position (same_name n) (group_names d.groups) ≡ Some at → Some at ≡ position (same_name n) (area_names d)
 group_found d n at there =
     sym (position-append (same_name n) (group_names d.groups) (page_names d.pages) ∙ ap (λ o. option_or o (option_map (λ k. length (group_names d.groups) + k) (position (same_name n) (page_names d.pages)))) there)
 
 pub page_found : (d : Diagram) (n : NameOf) (at : Option ℕ) → position (same_name n) (group_names d.groups) ≡ None → position (same_name n) (page_names d.pages) ≡ at
-    → option_map (λ k. length d.groups + k) at ≡ position (same_name n) (frame_names d)
+    → option_map (λ k. length d.groups + k) at ≡ position (same_name n) (area_names d)
 page_found d n at no_group there =
     let names = length-map d.groups (λ (g : Group). g.name) in
     sym (position-append (same_name n) (group_names d.groups) (page_names d.pages)

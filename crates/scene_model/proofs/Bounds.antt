@@ -7,7 +7,7 @@ use Rattle.scene_model.specs.declared.items.Guide.{Guide}
 use Rattle.scene_model.specs.declared.variables.Variable.{Variable}
 use Rattle.scene_model.specs.Names.{same_axis}
 use Rattle.scene_model.specs.Diagram.{Diagram}
-use Rattle.scene_model.specs.Sound.{IsWellFormed}
+use Rattle.scene_model.specs.Sound.{IsSound}
 use Rattle.scene_model.specs.Variables.{variables, shape_variable, guide_variable, group_variables, page_variables, guides_on}
 use Rattle.scene_model.proofs.Axes.{variables_counted}
 
@@ -21,7 +21,7 @@ length-guides_on axis (g ∷ gs) = by (same_axis g.axis axis) (length-guides_on 
     by false few = omega arith
 
 -- a sound diagram has at most 258 variables on an axis
-pub variables-count : {d : Diagram} (axis : Axis) → IsWellFormed d → length (variables d axis) ≤ 258
+pub variables-count : {d : Diagram} (axis : Axis) → IsSound d → length (variables d axis) ≤ 258
 variables-count {d} axis sound =
     let all = variables_counted d axis in
     let guides = length-guides_on axis d.guides in

@@ -2,9 +2,11 @@ pub mod AllNames
 pub mod Axes
 pub mod Bounds
 pub mod Changes
+pub mod Keyed
 pub mod Named
 pub mod Places
 pub mod Positions
+pub mod Sizes
 pub mod Sound
 pub mod Testing
 pub mod Using

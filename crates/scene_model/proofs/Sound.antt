@@ -24,7 +24,7 @@ use Rattle.scene_model.specs.Names.{NameOf, same_name, same_axis}
 use Rattle.scene_model.specs.Naming.{replaced}
 use Rattle.scene_model.specs.Diagram.{Diagram, shape_names, guide_names, sort_names}
 use Rattle.scene_model.specs.Uses.{has_shape, has_guide_on, stands_as, Use, IsUser, is_used_in, User, users, user_of, link_uses, rule_uses, group_uses, link_user, compound_user, group_user}
-use Rattle.scene_model.specs.Sound.{IsWellFormed, IsShape, IsGuide, IsLink, IsCompound, IsGroup, IsPage}
+use Rattle.scene_model.specs.Sound.{IsSound, IsShape, IsGuide, IsLink, IsCompound, IsGroup, IsPage}
 use Rattle.scene_model.specs.Items.{stands, count_of, name_of_thing, sort_of, thing_at, thing_named, IsThing, HasRoomFor, with_thing, with_replaced, without_at, without, with_thing_at}
 use Rattle.scene_model.proofs.Changes.{map-insert, map-remove, map-replaced, All-insert, All-remove, All-replaced, length-insert, length-remove}
 use Rattle.scene_model.proofs.AllNames.{distinct-put_back, distinct-without_at, sort_distinct}
@@ -213,8 +213,8 @@ unused d n none =
 -- ---- one item more
 
 -- with one more item of a new name, for which there is room
-pub IsWellFormed-put_back : (d : Diagram) (at : ℕ) (t : Thing) → IsWellFormed d → stands d (name_of_thing t) ≡ false → IsThing d t → HasRoomFor d t → IsWellFormed (with_thing_at d at t)
-IsWellFormed-put_back d at (thing.Shape s) sound free this room =
+pub IsSound-put_back : (d : Diagram) (at : ℕ) (t : Thing) → IsSound d → stands d (name_of_thing t) ≡ false → IsThing d t → HasRoomFor d t → IsSound (with_thing_at d at t)
+IsSound-put_back d at (thing.Shape s) sound free this room =
     let keep = as_before-shape d.shapes d.guides at s in
     record {
       distinct = distinct-put_back d at (thing.Shape s) sound.distinct free;
@@ -227,7 +227,7 @@ IsWellFormed-put_back d at (thing.Shape s) sound free this room =
       groups = groups-keep d.shapes (insert d.shapes at s) d.guides d.guides keep d.groups sound.groups;
       pages = sound.pages;
     }
-IsWellFormed-put_back d at (thing.Guide g) sound free this room =
+IsSound-put_back d at (thing.Guide g) sound free this room =
     let keep = as_before-guide d.shapes d.guides at g in
     record {
       distinct = distinct-put_back d at (thing.Guide g) sound.distinct free;
@@ -240,7 +240,7 @@ IsWellFormed-put_back d at (thing.Guide g) sound free this room =
       groups = groups-keep d.shapes d.shapes d.guides (insert d.guides at g) keep d.groups sound.groups;
       pages = sound.pages;
     }
-IsWellFormed-put_back d at (thing.Link l) sound free this room = record {
+IsSound-put_back d at (thing.Link l) sound free this room = record {
   distinct = distinct-put_back d at (thing.Link l) sound.distinct free;
   counts = let c = sound.counts in
       record { shapes = c.shapes; guides = c.guides; links = omega (arith, length-insert d.links at l, room); compounds = c.compounds; groups = c.groups; pages = c.pages };
@@ -251,7 +251,7 @@ IsWellFormed-put_back d at (thing.Link l) sound free this room = record {
   groups = sound.groups;
   pages = sound.pages;
 }
-IsWellFormed-put_back d at (thing.Compound x) sound free this room = record {
+IsSound-put_back d at (thing.Compound x) sound free this room = record {
   distinct = distinct-put_back d at (thing.Compound x) sound.distinct free;
   counts = let c = sound.counts in
       record { shapes = c.shapes; guides = c.guides; links = c.links; compounds = omega (arith, length-insert d.compounds at x, room); groups = c.groups; pages = c.pages };
@@ -262,7 +262,7 @@ IsWellFormed-put_back d at (thing.Compound x) sound free this room = record {
   groups = sound.groups;
   pages = sound.pages;
 }
-IsWellFormed-put_back d at (thing.Group g) sound free this room = record {
+IsSound-put_back d at (thing.Group g) sound free this room = record {
   distinct = distinct-put_back d at (thing.Group g) sound.distinct free;
   counts = let c = sound.counts in
       record { shapes = c.shapes; guides = c.guides; links = c.links; compounds = c.compounds; groups = omega (arith, length-insert d.groups at g, room); pages = c.pages };
@@ -273,7 +273,7 @@ IsWellFormed-put_back d at (thing.Group g) sound free this room = record {
   groups = All-insert (IsGroup d.shapes d.guides) d.groups at g sound.groups this;
   pages = sound.pages;
 }
-IsWellFormed-put_back d at (thing.Page p) sound free this room = record {
+IsSound-put_back d at (thing.Page p) sound free this room = record {
   distinct = distinct-put_back d at (thing.Page p) sound.distinct free;
   counts = let c = sound.counts in
       record { shapes = c.shapes; guides = c.guides; links = c.links; compounds = c.compounds; groups = c.groups; pages = omega (arith, length-insert d.pages at p, room) };
@@ -294,8 +294,8 @@ with_thing_at-end d (thing.Compound x) = ap (λ xs. record d { compounds = xs })
 with_thing_at-end d (thing.Group x) = ap (λ xs. record d { groups = xs }) (insert_end d.groups x)
 with_thing_at-end d (thing.Page x) = ap (λ xs. record d { pages = xs }) (insert_end d.pages x)
 
-pub IsWellFormed-push : (d : Diagram) (t : Thing) → IsWellFormed d → stands d (name_of_thing t) ≡ false → IsThing d t → HasRoomFor d t → IsWellFormed (with_thing d t)
-IsWellFormed-push d t sound free this room = subst IsWellFormed (with_thing_at-end d t) (IsWellFormed-put_back d (count_of d (sort_of t)) t sound free this room)
+pub IsSound-push : (d : Diagram) (t : Thing) → IsSound d → stands d (name_of_thing t) ≡ false → IsThing d t → HasRoomFor d t → IsSound (with_thing d t)
+IsSound-push d t sound free this room = subst IsSound (with_thing_at-end d t) (IsSound-put_back d (count_of d (sort_of t)) t sound free this room)
 
 -- ---- one item less
 
@@ -317,8 +317,8 @@ IsFree-unused d (thing.Compound c) none = tt
 IsFree-unused d (thing.Group g) none = tt
 IsFree-unused d (thing.Page p) none = tt
 
-pub IsWellFormed-without_at : (d : Diagram) (at : ℕ) (t : Thing) → IsWellFormed d → thing_at d (sort_of t) at ≡ Some t → IsFree d t → IsWellFormed (without_at d (sort_of t) at)
-IsWellFormed-without_at d at (thing.Shape s) sound there free =
+pub IsSound-without_at : (d : Diagram) (at : ℕ) (t : Thing) → IsSound d → thing_at d (sort_of t) at ≡ Some t → IsFree d t → IsSound (without_at d (sort_of t) at)
+IsSound-without_at d at (thing.Shape s) sound there free =
     let keep = as_before-no_shape d.shapes d.guides at s (found_as thing.Shape (λ a b e. cc) (slice_get d.shapes at) s there) in
     record {
       distinct = distinct-without_at d at (thing.Shape s) there sound.distinct;
@@ -331,7 +331,7 @@ IsWellFormed-without_at d at (thing.Shape s) sound there free =
       groups = groups-unused d.shapes (remove d.shapes at) d.guides d.guides s.name keep d.groups free.groups sound.groups;
       pages = sound.pages;
     }
-IsWellFormed-without_at d at (thing.Guide g) sound there free =
+IsSound-without_at d at (thing.Guide g) sound there free =
     let keep = as_before-no_guide d.shapes d.guides at g (found_as thing.Guide (λ a b e. cc) (slice_get d.guides at) g there) in
     record {
       distinct = distinct-without_at d at (thing.Guide g) there sound.distinct;
@@ -344,7 +344,7 @@ IsWellFormed-without_at d at (thing.Guide g) sound there free =
       groups = groups-unused d.shapes d.shapes d.guides (remove d.guides at) g.name keep d.groups free.groups sound.groups;
       pages = sound.pages;
     }
-IsWellFormed-without_at d at (thing.Link x) sound there free = record {
+IsSound-without_at d at (thing.Link x) sound there free = record {
   distinct = distinct-without_at d at (thing.Link x) there sound.distinct;
   counts = let c = sound.counts in
       record { shapes = c.shapes; guides = c.guides; links = omega (arith, length-remove d.links at, c.links); compounds = c.compounds; groups = c.groups; pages = c.pages };
@@ -355,7 +355,7 @@ IsWellFormed-without_at d at (thing.Link x) sound there free = record {
   groups = sound.groups;
   pages = sound.pages;
 }
-IsWellFormed-without_at d at (thing.Compound x) sound there free = record {
+IsSound-without_at d at (thing.Compound x) sound there free = record {
   distinct = distinct-without_at d at (thing.Compound x) there sound.distinct;
   counts = let c = sound.counts in
       record { shapes = c.shapes; guides = c.guides; links = c.links; compounds = omega (arith, length-remove d.compounds at, c.compounds); groups = c.groups; pages = c.pages };
@@ -366,7 +366,7 @@ IsWellFormed-without_at d at (thing.Compound x) sound there free = record {
   groups = sound.groups;
   pages = sound.pages;
 }
-IsWellFormed-without_at d at (thing.Group x) sound there free = record {
+IsSound-without_at d at (thing.Group x) sound there free = record {
   distinct = distinct-without_at d at (thing.Group x) there sound.distinct;
   counts = let c = sound.counts in
       record { shapes = c.shapes; guides = c.guides; links = c.links; compounds = c.compounds; groups = omega (arith, length-remove d.groups at, c.groups); pages = c.pages };
@@ -377,7 +377,7 @@ IsWellFormed-without_at d at (thing.Group x) sound there free = record {
   groups = All-remove (IsGroup d.shapes d.guides) d.groups at sound.groups;
   pages = sound.pages;
 }
-IsWellFormed-without_at d at (thing.Page x) sound there free = record {
+IsSound-without_at d at (thing.Page x) sound there free = record {
   distinct = distinct-without_at d at (thing.Page x) there sound.distinct;
   counts = let c = sound.counts in
       record { shapes = c.shapes; guides = c.guides; links = c.links; compounds = c.compounds; groups = c.groups; pages = omega (arith, length-remove d.pages at, c.pages) };
@@ -390,17 +390,17 @@ IsWellFormed-without_at d at (thing.Page x) sound there free = record {
 }
 
 -- without the item of a name
-pub IsWellFormed-without : (d : Diagram) (n : NameOf) (t : Thing) → IsWellFormed d → thing_named d n ≡ Some t → IsFree d t → IsWellFormed (without d n)
-IsWellFormed-without d n t sound found free =
+pub IsSound-without : (d : Diagram) (n : NameOf) (t : Thing) → IsSound d → thing_named d n ≡ Some t → IsFree d t → IsSound (without d n)
+IsSound-without d n t sound found free =
     let x = thing_found_is d n t found in
-    subst IsWellFormed (sym (ap (λ o. option_map_or (λ (item : Item). without_at d item.sort item.at) o d) x.item))
-    (IsWellFormed-without_at d x.at t sound x.there free)
+    subst IsSound (sym (ap (λ o. option_map_or (λ (item : Item). without_at d item.sort item.at) o d) x.item))
+    (IsSound-without_at d x.at t sound x.there free)
 
 -- ---- one item changed
 
 -- with a shape in the place of the one of its name
-pub IsWellFormed-set_shape : (d : Diagram) (s : Shape) → IsWellFormed d → IsShape s → IsWellFormed (with_replaced d (thing.Shape s))
-IsWellFormed-set_shape d s sound this =
+pub IsSound-set_shape : (d : Diagram) (s : Shape) → IsSound d → IsShape s → IsSound (with_replaced d (thing.Shape s))
+IsSound-set_shape d s sound this =
     let after = replaced (λ (x : Shape). x.name) s d.shapes in
     let names : shape_names after ≡ shape_names d.shapes = map-replaced (λ (x : Shape). x.name) s d.shapes in
     let keep = same_shapes d.shapes after d.guides names in
@@ -453,18 +453,24 @@ alone {T} name_of (y ∷ ys) (suc k) x distinct at =
     at_place (z ∷ zs) zero all at = let same : z ≡ x = cc in subst (λ w. same_name (name_of y) (name_of w) ≡ false) same all.0
     at_place (z ∷ zs) (suc k) all at = at_place zs k all.1 at
 
--- with a guideline in the place of the one of its name, on the same axis
-pub IsWellFormed-set_guide : (d : Diagram) (g h : Guide) → IsWellFormed d → IsGuide g → thing_named d g.name ≡ Some (thing.Guide h) → h.axis ≡ g.axis → IsWellFormed (with_replaced d (thing.Guide g))
-IsWellFormed-set_guide d g h sound this found axes =
-    let after = replaced (λ (x : Guide). x.name) g d.guides in
-    let names : guide_names after ≡ guide_names d.guides = map-replaced (λ (x : Guide). x.name) g d.guides in
+-- with a guideline in the place of the one of its name, on the same axis, the same names have the axis
+pub has_guide_on-set : (d : Diagram) (g h : Guide) → IsSound d → thing_named d g.name ≡ Some (thing.Guide h) → h.axis ≡ g.axis → (axis : Axis) (n : NameOf)
+    → has_guide_on axis (replaced (λ (x : Guide). x.name) g d.guides) n ≡ has_guide_on axis d.guides n
+has_guide_on-set d g h sound found axes =
     let x = thing_found_is d g.name (thing.Guide h) found in
     let at = found_as thing.Guide (λ a b e. cc) (slice_get d.guides x.at) h x.there in
     let one = alone (λ (y : Guide). y.name) d.guides x.at h (sort_distinct d sort.Guide sound.distinct) at in
     let all =
     All-mono (λ (y : Guide). same_name h.name y.name ≡ true → y ≡ h) (λ (y : Guide). same_name g.name y.name ≡ true → y.axis ≡ g.axis)
     (λ y is same. ap (λ (z : Guide). z.axis) (is (ap (λ n. same_name n y.name) x.named ∙ same)) ∙ axes) d.guides one in
-    let keep = same_guides d.shapes d.guides after names (on_axis g d.guides all) in
+    on_axis g d.guides all
+
+-- with a guideline in the place of the one of its name, on the same axis
+pub IsSound-set_guide : (d : Diagram) (g h : Guide) → IsSound d → IsGuide g → thing_named d g.name ≡ Some (thing.Guide h) → h.axis ≡ g.axis → IsSound (with_replaced d (thing.Guide g))
+IsSound-set_guide d g h sound this found axes =
+    let after = replaced (λ (x : Guide). x.name) g d.guides in
+    let names : guide_names after ≡ guide_names d.guides = map-replaced (λ (x : Guide). x.name) g d.guides in
+    let keep = same_guides d.shapes d.guides after names (has_guide_on-set d g h sound found axes) in
     record {
       distinct = subst (λ ns. IsDistinct same_name (shape_names d.shapes ++ (ns ++ flat_map (sort_names d) (sort.Link ∷ sort.Compound ∷ sort.Group ∷ sort.Page ∷ [])))) (sym names) sound.distinct;
       counts = let c = sound.counts in let same : length after ≡ length d.guides = length-map d.guides _ in

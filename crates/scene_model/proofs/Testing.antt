@@ -9,10 +9,10 @@ use Rattle.scene_model.specs.declared.uses.Wanted.{Wanted}
 use Rattle.scene_model.specs.Names.{NameOf, same_name}
 use Rattle.scene_model.specs.Diagram.{Diagram, all_sorts}
 use Rattle.scene_model.specs.Uses.{each, stands_as, IsUser, user_of}
-use Rattle.scene_model.specs.Sound.{IsWellFormed}
+use Rattle.scene_model.specs.Sound.{IsSound}
 use Rattle.scene_model.specs.Items.{stands, item_named, thing_found, without}
 use Rattle.scene_model.proofs.Places.{item_found, is_some-in}
-use Rattle.scene_model.proofs.Sound.{unused, IsUnused, IsFree-unused, IsWellFormed-without}
+use Rattle.scene_model.proofs.Sound.{unused, IsUnused, IsFree-unused, IsSound-without}
 
 pair : (a b : NameOf) → same_name a b ≡ false → IsDistinct same_name (a ∷ b ∷ [])
 unfolding IsDistinct
@@ -27,12 +27,12 @@ no_user None is = cc
 no_user (Some n) is = cc
 
 -- what stands and no item uses may be taken out
-pub taken : (d : Diagram) (n : NameOf) → IsWellFormed d → stands d n ≡ true → is_some (user_of d n) ≡ false → IsWellFormed (without d n)
+pub taken : (d : Diagram) (n : NameOf) → IsSound d → stands d n ≡ true → is_some (user_of d n) ≡ false → IsSound (without d n)
 taken d n sound stood none = by (item_named d n) refl (is_some-in d n all_sorts ∙ stood)
   where
-    by : (o : Option Item) → item_named d n ≡ o → is_some o ≡ true → IsWellFormed (without d n)
+    by : (o : Option Item) → item_named d n ≡ o → is_some o ≡ true → IsSound (without d n)
     by None found is = cc
     by (Some item) found is =
         let t = item_found d n item found in
         let free = subst (IsUnused d) (sym t.2) (unused d n (no_user (user_of d n) none)) in
-        IsWellFormed-without d n t.0 sound (ap (thing_found d) found ∙ t.1) (IsFree-unused d t.0 free)
+        IsSound-without d n t.0 sound (ap (thing_found d) found ∙ t.1) (IsFree-unused d t.0 free)

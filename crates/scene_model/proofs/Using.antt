@@ -14,7 +14,6 @@ use Rattle.scene_model.specs.Names.{NameOf, same_name}
 use Rattle.scene_model.specs.Uses.{each, Use, User, is_used_in}
 use Rattle.scene_model.proofs.Named.{take-next}
 use Rattle.scene_model.proofs.Positions.{position-next}
-use Rattle.scene_model.proofs.Places.{position-free}
 
 -- the names of a list are those that it uses
 pub used_each : (w : Wanted) (names : List NameOf) (n : NameOf) → is_used_in (each w names) n ≡ list_any (same_name n) names
@@ -96,23 +95,6 @@ first_of_three {A} {B} f p xs ys zs =
     either : (a b : Option A) → option_map f (option_or a b) ≡ option_or (option_map f a) (option_map f b)
     either None b = refl
     either (Some x) b = refl
-
--- the first that passes is found behind those that don't
-pub position-at : {A : Type 0} (p : A → Bool) (xs : List A) (k : ℕ) (x : A) → list_any p (take k xs) ≡ false → slice_get xs k ≡ Some x → p x ≡ true → position p xs ≡ Some k
-position-at p [] k x none at is = cc
-position-at p (y ∷ ys) zero x none at is =
-    let same : y ≡ x = cc in
-    position-next p y ys ∙ ap (λ b. cond b (Some 0) (option_map suc (position p ys))) (ap p same ∙ is)
-position-at {A} p (y ∷ ys) (suc k) x none at is = position-next p y ys ∙ by (p y) none (position-at p ys k x)
-  where
-    by : (b : Bool) → (b || list_any p (take k ys)) ≡ false → (list_any p (take k ys) ≡ false → slice_get ys k ≡ Some x → p x ≡ true → position p ys ≡ Some k)
-        → cond b (Some 0) (option_map suc (position p ys)) ≡ Some (suc k)
-    by true none rest = cc
-    by false none rest = ap (option_map suc) (rest none at is)
-
--- none of them passes
-pub position-none : {A : Type 0} (p : A → Bool) (xs : List A) (k : ℕ) → k ≡ length xs → list_any p (take k xs) ≡ false → None ≡ position p xs
-position-none p xs k end none = sym (position-free p xs (ap (list_any p) (sym (ap (λ i. take i xs) end ∙ take-length xs)) ∙ none))
 
 module _ {T : Type 0} (name_of : T → NameOf) (x : T) where
   -- where no item has the name, none is replaced

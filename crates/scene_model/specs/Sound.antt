@@ -89,7 +89,7 @@ pub record IsWithinLimits (d : Diagram) : Type 0 where
 
 -- a sound diagram: its names differ, its counts stay within the limits, its numbers lie in their ranges, and the
 -- names that its items use stand as what is wanted
-pub record IsWellFormed (d : Diagram) : Type 0 where
+pub record IsSound (d : Diagram) : Type 0 where
   pub distinct : IsDistinct same_name (names_of d)
   pub counts : IsWithinLimits d
   pub shapes : AllByRecursion IsShape d.shapes

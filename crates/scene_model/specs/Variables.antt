@@ -1,7 +1,7 @@
 -- The variables of an axis. Variables with a weight come from the VPSC problem (Dwyer, Marriott and Stuckey
 -- 2005); which items have variables, and the weights, are this project's own.
-use Rattle.std.specs.Prelude.{ℕ, ℤ, ◌+ℤ◌, List, [], ◌∷◌, ◌++◌, map, filter, position, Bool, false, if◌then◌else◌, Option, Some, None}
-use Rattle.std.specs.List.{flat_map}
+use Rattle.std.specs.Prelude.{ℕ, ℤ, pos, ◌+ℤ◌, int_div, List, [], ◌∷◌, ◌++◌, map, filter, position, Bool, false, if◌then◌else◌, Option, Some, None}
+use Rattle.std.specs.List.{flat_map, position_or_len}
 use Rattle.std.specs.Option.{option_map_or}
 use Rattle.units.specs.declared.geometry.Axis.{Axis}
 use Rattle.scene_model.specs.declared.items.Shape.{Shape}
@@ -36,6 +36,18 @@ size axis s = along axis s.w s.h
 -- the high edge of a shape as declared, in diagram units
 abbrev pub high : Axis → Shape → ℤ
 high axis s = low axis s +ℤ size axis s
+
+-- half of a size, rounded down
+abbrev pub half : ℤ → ℤ
+half extent = int_div extent (pos 2)
+
+-- the middle of a shape as declared, in diagram units
+abbrev pub mid : Axis → Shape → ℤ
+mid axis s = low axis s +ℤ half (size axis s)
+
+-- the declared width or height of a page, in diagram units
+abbrev pub page_size : Axis → Page → ℤ
+page_size axis p = along axis p.w p.h
 
 -- the variable of a shape: it weighs 1, held 1000
 abbrev pub shape_variable : Axis → Shape → Variable
@@ -79,8 +91,12 @@ variable_name (thing.Group g) high = Some (if high then HighEdge g.name else Low
 variable_name (thing.Page p) high = Some (if high then HighEdge p.name else LowEdge p.name)
 
 -- the number of the variable of a name on an axis
-abbrev pub number_named : Diagram → Axis → VariableName → Option ℕ
-number_named d axis name = position (λ (v : Variable). same_variable name v.name) (variables d axis)
+abbrev pub variable_number : Diagram → Axis → VariableName → Option ℕ
+variable_number d axis name = position (λ (v : Variable). same_variable name v.name) (variables d axis)
+
+-- the same number; where no variable has the name, how many variables there are
+abbrev pub number_or_count : Diagram → Axis → VariableName → ℕ
+number_or_count d axis name = position_or_len (λ (v : Variable). same_variable name v.name) (variables d axis)
 
 -- the name of the variable of an item that was found, or of its high or low edge
 abbrev pub variable_found : Option Thing → Bool → Option VariableName
@@ -88,4 +104,4 @@ variable_found found high = option_map_or (λ (t : Thing). variable_name t high)
 
 -- the number on an axis of the variable of an item that was found, or of its high or low edge
 abbrev pub number_of_thing : Diagram → Axis → Option Thing → Bool → Option ℕ
-number_of_thing d axis found high = option_map_or (number_named d axis) (variable_found found high) None
+number_of_thing d axis found high = option_map_or (variable_number d axis) (variable_found found high) None

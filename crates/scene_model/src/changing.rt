@@ -1,6 +1,6 @@
 //! Changes of a scene.
 ghost use Rattle.std.specs.Prelude.{◌≡◌, ◌<◌, ◌≤◌, true, false, Some, IsSome, OnOk, OnErr};
-ghost use Rattle.scene_model.specs.Sound.{IsWellFormed};
+ghost use Rattle.scene_model.specs.Sound.{IsSound};
 ghost use Rattle.scene_model.specs.Items.{stands, count_of, item_named, name_of_thing, sort_of, sort_named, thing_at, with_thing, with_replaced, without_at, without, with_thing_at, IsThing, HasRoomFor};
 
 use crate::items::{Item, Sort, Thing};
@@ -28,7 +28,7 @@ impl Scene {
     /// sound afterwards.
     pub fn set(&mut self, thing: Thing)
         requires stands { sort_named self.old (name_of_thing thing) ≡ Some (sort_of thing) }
-        requires sound { IsWellFormed (with_replaced self.old thing) }
+        requires sound { IsSound (with_replaced self.old thing) }
         ensures { self.new ≡ with_replaced self.old thing }
     {
         match thing {
@@ -46,7 +46,7 @@ impl Scene {
     /// afterwards: no item uses a shape or guideline that is taken out, which `user_of` tells.
     pub fn take(&mut self, name: &Name) -> (u16, Thing)
         requires stands { stands self.old name.now ≡ true }
-        requires sound { IsWellFormed (without self.old name.now) }
+        requires sound { IsSound (without self.old name.now) }
         ensures number { item_named self.old name.now ≡ Some (record { sort = sort_of result.1; at = result.0 }) }
         ensures taken { thing_at self.old (sort_of result.1) result.0 ≡ Some result.1 }
         ensures named { name_of_thing result.1 ≡ name.now }
@@ -55,7 +55,7 @@ impl Scene {
         ensures back { with_thing_at self.new result.0 result.1 ≡ self.old }
     {
         let item = self.lookup(name).unwrap();
-        // The names differ, which `count` tells.
+        // For the proof: brings the bounds of the scene.
         let _count = self.count(item.sort);
         let thing = self.take_at(item);
         (item.at, thing)
@@ -63,7 +63,7 @@ impl Scene {
 
     fn take_at(&mut self, item: Item) -> Thing
         requires stands { IsSome (thing_at self.old item.sort item.at) }
-        requires sound { IsWellFormed (without_at self.old item.sort item.at) }
+        requires sound { IsSound (without_at self.old item.sort item.at) }
         ensures sort { sort_of result ≡ item.sort }
         ensures taken { thing_at self.old item.sort item.at ≡ Some result }
         ensures others { self.new ≡ without_at self.old item.sort item.at }
@@ -85,7 +85,7 @@ impl Scene {
     pub fn put_back(&mut self, at: u16, thing: Thing) -> Result<(), Memory>
         requires within { at ≤ count_of self.old (sort_of thing) }
         requires free { stands self.old (name_of_thing thing) ≡ false }
-        requires sound { IsWellFormed (with_thing_at self.old at thing) }
+        requires sound { IsSound (with_thing_at self.old at thing) }
         ensures added { OnOk result (self.new ≡ with_thing_at self.old at thing) }
         ensures back { OnOk result (without self.new (name_of_thing thing) ≡ self.old) }
         ensures unchanged { OnErr result (self.new ≡ self.old) }
@@ -97,7 +97,7 @@ impl Scene {
     fn insert(&mut self, at: u16, thing: Thing) -> Result<(), Memory>
         requires within { at ≤ count_of self.old (sort_of thing) }
         requires free { stands self.old (name_of_thing thing) ≡ false }
-        requires sound { IsWellFormed (with_thing_at self.old at thing) }
+        requires sound { IsSound (with_thing_at self.old at thing) }
         ensures added { OnOk result (self.new ≡ with_thing_at self.old at thing) }
         ensures unchanged { OnErr result (self.new ≡ self.old) }
     {

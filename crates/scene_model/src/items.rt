@@ -108,11 +108,11 @@ pub struct Compound {
     pub rule: Rule,
 }
 
-/// A group: a frame around its members.
+/// A group: an area around its members.
 #[derive(Debug, Drop, PartialEq)]
 pub struct Group {
     pub name: Name,
-    /// How far the members keep inside the frame: 0 to 10,000 diagram units.
+    /// How far the members keep inside its edges: 0 to 10,000 diagram units.
     pub pad: i32,
     /// Different shapes.
     pub members: Members,
@@ -122,7 +122,7 @@ pub struct Group {
     pub high: Pt,
 }
 
-/// The page: a frame around all shapes.
+/// The page: an area around all shapes.
 #[derive(Clone, Copy, Debug, PartialEq, Eq)]
 pub struct Page {
     pub name: Name,
@@ -147,8 +147,7 @@ impl HasName for Shape {
         self.name
     }
 
-    fn copy(&self, alloc: Global) -> Result<Self, Memory> {
-        let _unused = alloc;
+    fn copy(&self, _alloc: Global) -> Result<Self, Memory> {
         Ok(*self)
     }
 }
@@ -160,8 +159,7 @@ impl HasName for Guide {
         self.name
     }
 
-    fn copy(&self, alloc: Global) -> Result<Self, Memory> {
-        let _unused = alloc;
+    fn copy(&self, _alloc: Global) -> Result<Self, Memory> {
         Ok(*self)
     }
 }
@@ -173,8 +171,7 @@ impl HasName for Link {
         self.name
     }
 
-    fn copy(&self, alloc: Global) -> Result<Self, Memory> {
-        let _unused = alloc;
+    fn copy(&self, _alloc: Global) -> Result<Self, Memory> {
         Ok(*self)
     }
 }
@@ -261,8 +258,7 @@ impl HasName for Page {
         self.name
     }
 
-    fn copy(&self, alloc: Global) -> Result<Self, Memory> {
-        let _unused = alloc;
+    fn copy(&self, _alloc: Global) -> Result<Self, Memory> {
         Ok(*self)
     }
 }

@@ -1,19 +1,20 @@
-//! The scene of a diagram: its items in the order of making, by name, and the variables that they give each axis.
+//! The scene of a diagram: its items in the order of making, by name, and the variables that they give each axis. What
+//! its constraints mean, and the separations that say the same, are stated in `specs/`.
 #![tactic(auto)]
 
-pub mod changing;
-pub mod items;
-pub mod naming;
-pub mod scene;
-pub mod uses;
-pub mod variables;
+mod changing;
+mod intervals;
+mod items;
+mod naming;
+mod scene;
+mod uses;
+mod variables;
 
 pub use items::{
     AlignLine, Compound, Form, Group, Guide, Item, Link, Page, Rule, Shape, Sort, Thing,
 };
-pub use naming::{HasName, NamedItems};
 pub use scene::Scene;
-pub use uses::Wanted;
+pub use uses::{is_among, Wanted};
 pub use variables::{Variable, VariableName};
 
 #[cfg(test)]

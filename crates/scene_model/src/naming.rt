@@ -1,9 +1,10 @@
 //! Items of one sort, by name and in the order of making.
-ghost use Rattle.std.specs.Prelude.{◌≡◌, ◌<◌, ◌≤◌, true, [], ◌∷◌, ◌++◌, IfOk, OnOk, OnErr, length, map, position, slice_get, option_copied, Some};
+ghost use Rattle.std.specs.Prelude.{◌≡◌, ◌<◌, ◌≤◌, true, [], ◌∷◌, ◌++◌, false, IfOk, OnOk, OnErr, length, map, position, slice_get, option_copied, Some};
 ghost use Rattle.std.specs.List.{IsDistinct, insert, remove};
 ghost use Rattle.scene_model.specs.Names.{NameOf, same_name};
 ghost use Rattle.scene_model.specs.Naming.{has_name, replaced};
 
+use indexmap::IndexMap;
 use std::alloc::Global;
 use std::marker::Model;
 use units::{Memory, Name};
@@ -22,21 +23,31 @@ pub trait HasName: Sized {
         ensures { IfOk result (λ copy. copy ≡ self.now) };
 }
 
-/// Items in the order of making, found by name. Contracts see the list of them.
-#[derive(Drop)]
+/// Items in the order of making, found by name, each under its own. Contracts see the list of them.
 pub struct NamedItems<T: HasName> {
-    items: Vec<T>,
+    items: IndexMap<Name, T>,
 }
 
 impl<T: HasName> Model for NamedItems<T> {
-    ghost use Rattle.std.specs.Prelude.{List};
+    ghost use Rattle.std.specs.Prelude.{◌≡◌, List, map};
     ghost use Rattle.std.specs.Coded.{coded_list};
+    ghost use Rattle.indexmap.specs.IndexMap.{keys, values};
 
     ghost Value = { List T };
 
     ghost coded = { coded_list T.code };
 
-    ghost view = { λ a. a.items.items };
+    ghost view = { λ a. values a.items };
+
+    ghost invariant = { λ a. keys a.items ≡ map T.name_of (values a.items) };
+}
+
+// Written out: a derived drop is proved anew, field within field, at each exit of each owner.
+impl<T: HasName + Drop> Drop for NamedItems<T> {
+    fn drop(self) {
+        let NamedItems { items } = self;
+        drop(items);
+    }
 }
 
 impl<T: HasName> NamedItems<T> {
@@ -45,7 +56,7 @@ impl<T: HasName> NamedItems<T> {
         ensures { result ≡ [] }
     {
         NamedItems {
-            items: Vec::new(alloc),
+            items: IndexMap::new(alloc),
         }
     }
 
@@ -60,19 +71,7 @@ impl<T: HasName> NamedItems<T> {
     pub fn number_of(&self, name: &Name) -> Option<usize>
         ensures { result ≡ position (same_name name.now) (map T.name_of self.now) }
     {
-        for number in 0..self.len() {
-            if *name == self.name_at(number) {
-                return Some(number);
-            }
-        }
-        None
-    }
-
-    fn name_at(&self, number: usize) -> Name
-        requires { number < length self.now }
-        ensures { slice_get (map T.name_of self.now) number ≡ Some result }
-    {
-        self.at(number).unwrap().name()
+        self.items.get_index_of(name)
     }
 
     /// Whether one of the items has this name.
@@ -86,17 +85,18 @@ impl<T: HasName> NamedItems<T> {
     pub fn at(&self, number: usize) -> Option<&T>
         ensures { option_copied result ≡ slice_get self.now number }
     {
-        self.items.get(number)
+        self.items.values().as_slice().get(number)
     }
 
-    /// Adds an item at the end. After want of memory the items are as before.
+    /// Adds an item of a new name at the end. After want of memory the items are as before.
     pub fn push(&mut self, item: T) -> Result<(), Memory>
     where
         T: Drop,
+        requires free { has_name T.name_of (T.name_of item) self.old ≡ false }
         ensures added { OnOk result (self.new ≡ self.old ++ item ∷ []) }
         ensures unchanged { OnErr result (self.new ≡ self.old) }
     {
-        self.items.push(item)?;
+        self.items.insert(item.name(), item)?;
         Ok(())
     }
 
@@ -120,22 +120,21 @@ impl<T: HasName> NamedItems<T> {
         ensures taken { result ≡ slice_get self.old number }
         ensures others { self.new ≡ remove self.old number }
     {
-        if number >= self.len() {
-            return None;
-        }
-        Some(self.items.remove(number))
+        let (_, item) = self.items.shift_remove_index(number)?;
+        Some(item)
     }
 
-    /// Puts an item in at this number, at most `len`: those from there on move down. After want of memory the items are
-    /// as before.
+    /// Puts an item of a new name in at this number, at most `len`: those from there on move down. After want of memory
+    /// the items are as before.
     pub fn put_back(&mut self, number: usize, item: T) -> Result<(), Memory>
     where
         T: Drop,
-        requires { number ≤ length self.old }
+        requires within { number ≤ length self.old }
+        requires free { has_name T.name_of (T.name_of item) self.old ≡ false }
         ensures added { OnOk result (self.new ≡ insert self.old number item) }
         ensures unchanged { OnErr result (self.new ≡ self.old) }
     {
-        self.items.insert(number, item)?;
+        self.items.shift_insert(number, item.name(), item)?;
         Ok(())
     }
 
@@ -146,7 +145,7 @@ impl<T: HasName> NamedItems<T> {
         ensures { IfOk result (λ copy. copy ≡ self.now) }
     {
         let mut copy = NamedItems::new(alloc);
-        for number in 0..self.len() {
+        for number in 0..self.items.len() {
             let item = self.copy_of(number, alloc)?;
             copy.push(item)?;
         }

@@ -2,7 +2,7 @@
 ghost use Rattle.std.specs.Prelude.{◌≡◌, ◌<◌, Some, IfOk, length, slice_get, is_some, position, IfSome, option_copied};
 ghost use Rattle.scene_model.specs.Names.{same_name};
 ghost use Rattle.scene_model.specs.Diagram.{empty_diagram, sort_names, all_sorts};
-ghost use Rattle.scene_model.specs.Sound.{IsWellFormed, IsShape, IsGuide, IsLink, IsCompound, IsGroup, IsPage};
+ghost use Rattle.scene_model.specs.Sound.{IsSound, IsShape, IsGuide, IsLink, IsCompound, IsGroup, IsPage};
 ghost use Rattle.scene_model.specs.Items.{stands, count_of, item_among, item_named};
 
 use crate::items::{Compound, Group, Guide, Item, Link, Page, Shape, Sort};
@@ -14,7 +14,6 @@ use units::{Memory, Name};
 /// The items of a diagram, each sort in the order of making. Its type keeps that it is sound: names differ, numbers lie
 /// in their ranges, counts stay within the limits, and the names that items use stand as what is wanted. Contracts see it
 /// as a diagram.
-#[derive(Drop)]
 pub struct Scene {
     pub(crate) shapes: NamedItems<Shape>,
     pub(crate) guides: NamedItems<Guide>,
@@ -27,7 +26,7 @@ pub struct Scene {
 
 impl Model for Scene {
     ghost use Rattle.scene_model.specs.Diagram.{Diagram};
-    ghost use Rattle.scene_model.specs.Sound.{IsWellFormed};
+    ghost use Rattle.scene_model.specs.Sound.{IsSound};
 
     ghost Value = { Diagram };
 
@@ -40,7 +39,7 @@ impl Model for Scene {
       pages = a.pages;
     } };
 
-    ghost invariant = { λ a. IsWellFormed (record {
+    ghost invariant = { λ a. IsSound (record {
       shapes = a.shapes;
       guides = a.guides;
       links = a.links;
@@ -48,6 +47,26 @@ impl Model for Scene {
       groups = a.groups;
       pages = a.pages;
     }) };
+}
+
+// Written out, as that of `NamedItems`.
+impl Drop for Scene {
+    fn drop(self) {
+        let Scene {
+            shapes,
+            guides,
+            links,
+            compounds,
+            groups,
+            pages,
+        } = self;
+        drop(shapes);
+        drop(guides);
+        drop(links);
+        drop(compounds);
+        drop(groups);
+        drop(pages);
+    }
 }
 
 impl Scene {
@@ -97,7 +116,7 @@ impl Scene {
 
     fn number_among(&self, sort: Sort, name: &Name) -> Option<usize>
         ensures value { result ≡ position (same_name name.now) (sort_names self.now sort) }
-        ensures sound { IsWellFormed self.now }
+        ensures sound { IsSound self.now }
     {
         match sort {
             Sort::Shape => self.shapes.number_of(name),
@@ -112,7 +131,7 @@ impl Scene {
     /// How many items of the sort stand.
     pub fn count(&self, sort: Sort) -> u16
         ensures value { result ≡ count_of self.now sort }
-        ensures sound { IsWellFormed self.now }
+        ensures sound { IsSound self.now }
     {
         match sort {
             Sort::Shape => self.shapes.len() as u16,

@@ -2,8 +2,9 @@
 ghost use Rattle.std.specs.Prelude.{◌≡◌};
 ghost use Rattle.scene_model.specs.Sound.{IsShape, IsGuide, IsCoordinate};
 
+use crate::naming::HasName;
 use crate::{
-    AlignLine, Compound, Form, Group, Guide, HasName, Link, Rule, Scene, Shape, Sort, Thing, Wanted,
+    AlignLine, Compound, Form, Group, Guide, Link, Rule, Scene, Shape, Sort, Thing, Wanted,
 };
 use std::alloc::Global;
 use std::test::Fail;
@@ -393,7 +394,7 @@ fn is_compound_copied(compound: &Compound, alloc: Global) -> Result<bool, Fail> 
 
 #[test]
 fn a_group_is_copied(rt: HostRuntime) -> Result<(), Fail> {
-    let group = group(named(b"frame")?, members(rt.alloc())?);
+    let group = group(named(b"group")?, members(rt.alloc())?);
     let copied = is_group_copied(&group, rt.alloc())?;
     assert!(rt; copied);
     Ok(())

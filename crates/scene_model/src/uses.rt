@@ -27,8 +27,15 @@ impl Scene {
         match wanted {
             Wanted::Shape => self.has_shape(name),
             Wanted::Guide => self.has_guide(name),
-            Wanted::Placed(axis) => self.has_shape(name) || has_guide_on(&self.guides, axis, name),
+            Wanted::Placed(axis) => self.has_shape(name) || self.has_guide_on(axis, name),
         }
+    }
+
+    /// Whether a guideline of this name stands and has this axis.
+    pub fn has_guide_on(&self, axis: Axis, name: &Name) -> bool
+        ensures { result ≡ has_guide_on axis self.now.guides name.now }
+    {
+        has_guide_on(&self.guides, axis, name)
     }
 
     fn has_shape(&self, name: &Name) -> bool
@@ -82,7 +89,8 @@ pub trait Uses: Sized {
         ensures { result ≡ is_used_in (uses_of self.now) name.now };
 }
 
-fn is_among(names: &[Name], name: &Name) -> bool
+/// Whether the name is among the names.
+pub fn is_among(names: &[Name], name: &Name) -> bool
     ensures { result ≡ list_any (same_name name.now) names.now }
 {
     names.contains(name)

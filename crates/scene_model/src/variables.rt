@@ -1,21 +1,21 @@
 //! The variables of an axis.
-ghost use Rattle.std.specs.Prelude.{◌≡◌, ◌+◌, ◌<◌, ◌≤◌, ◌+ℤ◌, ◌++◌, map, Some, IsSome, IfSome, if◌then◌else◌, length, slice_get, position, option_copied};
+ghost use Rattle.std.specs.Prelude.{◌≡◌, ◌+◌, ◌<◌, ◌≤◌, ◌+ℤ◌, ◌++◌, map, Some, IfSome, if◌then◌else◌, length, slice_get, position, option_copied};
 ghost use Rattle.std.specs.List.{flat_map};
 ghost use Rattle.std.specs.Option.{option_map};
 ghost use Rattle.scene_model.specs.declared.variables.Variable.{Variable as VariableValue};
 ghost use Rattle.scene_model.specs.declared.variables.VariableName.TheVariants.{OfItem, LowEdge, HighEdge};
 ghost use Rattle.scene_model.specs.Names.{along, same_name, same_axis};
 ghost use Rattle.scene_model.specs.Diagram.{guide_names, group_names, page_names};
-ghost use Rattle.scene_model.specs.Sound.{IsWellFormed};
+ghost use Rattle.scene_model.specs.Sound.{IsSound};
 ghost use Rattle.scene_model.specs.Items.{thing_at};
-ghost use Rattle.scene_model.specs.Variables.{variables, shape_variable, guide_variable, group_variables, page_variables, guides_on, number_named, variable_found, number_of_thing};
+ghost use Rattle.scene_model.specs.Variables.{variables, shape_variable, guide_variable, group_variables, page_variables, guides_on, variable_number, variable_found, number_of_thing};
 
 use crate::items::{Group, Guide, Item, Page, Shape, Sort};
 use crate::scene::Scene;
 use units::{Axis, Name};
 
 /// What a variable places.
-#[derive(Clone, Copy, Debug, PartialEq, Eq)]
+#[derive(Clone, Copy, Debug, PartialEq, Eq, Hash)]
 pub enum VariableName {
     /// The place of the shape or guideline of this name.
     OfItem(Name),
@@ -43,7 +43,7 @@ impl Scene {
     #[tactic(auto, using(crate::proofs::Axes::variables_counted))]
     pub fn vars(&self, axis: Axis) -> u16
         ensures value { result ≡ length (variables self.now axis) }
-        ensures sound { IsWellFormed self.now }
+        ensures sound { IsSound self.now }
     {
         self.first_edge(axis) + 2 * (self.count(Sort::Group) + self.count(Sort::Page))
     }
@@ -82,42 +82,42 @@ impl Scene {
     }
 
     /// The number of the variable of this name on the axis: None exactly where no variable has it.
-    pub fn variable_named(&self, axis: Axis, name: &VariableName) -> Option<u16>
-        ensures value { result ≡ number_named self.now axis name.now }
+    pub fn variable_number(&self, axis: Axis, name: &VariableName) -> Option<u16>
+        ensures value { result ≡ variable_number self.now axis name.now }
         ensures within { IfSome result (λ at. at < length (variables self.now axis)) }
     {
         match name {
-            VariableName::OfItem(name) => self.item_named(axis, name),
+            VariableName::OfItem(name) => self.number_of_item(axis, name),
             VariableName::LowEdge(name) => self.edge_named(axis, name, false),
             VariableName::HighEdge(name) => self.edge_named(axis, name, true),
         }
     }
 
-    /// The number on the axis of the variable of this item, or of its high or low edge. None exactly where the item has
-    /// no variable there: a guideline has one on its own axis alone, links and compounds have none.
+    /// The number on the axis of the variable of this item, or of its high or low edge (`high` counts for groups and the
+    /// page alone). None exactly where the item has no variable there: a guideline has one on its own axis alone, links
+    /// and compounds have none, and neither has an item that doesn't stand.
     pub fn var_of(&self, axis: Axis, item: Item, high: bool) -> Option<u16>
-        requires { IsSome (thing_at self.now item.sort item.at) }
         ensures value { result ≡ number_of_thing self.now axis (thing_at self.now item.sort item.at) high }
         ensures within { IfSome result (λ at. at < length (variables self.now axis)) }
     {
         match self.variable_of(item, high) {
-            Some(name) => self.variable_named(axis, &name),
+            Some(name) => self.variable_number(axis, &name),
             None => None,
         }
     }
 
     /// The name of the variable of this item, or of its high or low edge.
     fn variable_of(&self, item: Item, high: bool) -> Option<VariableName>
-        requires { IsSome (thing_at self.now item.sort item.at) }
         ensures { result ≡ variable_found (thing_at self.now item.sort item.at) high }
     {
+        let number = usize::from(item.at);
         match item.sort {
-            Sort::Shape => Some(VariableName::OfItem(self.shape(item.at).name)),
-            Sort::Guide => Some(VariableName::OfItem(self.guide(item.at).name)),
+            Sort::Shape => Some(VariableName::OfItem(self.shapes.at(number)?.name)),
+            Sort::Guide => Some(VariableName::OfItem(self.guides.at(number)?.name)),
             Sort::Link => None,
             Sort::Compound => None,
-            Sort::Group => Some(edge_of(self.group(item.at).name, high)),
-            Sort::Page => Some(edge_of(self.page_at(item.at).name, high)),
+            Sort::Group => Some(edge_of(self.groups.at(number)?.name, high)),
+            Sort::Page => Some(edge_of(self.pages.at(number)?.name, high)),
         }
     }
 
@@ -196,17 +196,17 @@ impl Scene {
         requires { number < length (flat_map (group_variables axis) self.now.groups ++ flat_map (page_variables axis) self.now.pages) }
         ensures { slice_get (flat_map (group_variables axis) self.now.groups ++ flat_map (page_variables axis) self.now.pages) number ≡ Some result }
     {
-        let frame = number / 2;
+        let area = number / 2;
         let high = number % 2 == 1;
         let groups = self.count(Sort::Group);
-        if frame < groups {
-            return group_edge(self.group(frame), axis, high);
+        if area < groups {
+            return group_edge(self.group(area), axis, high);
         }
-        page_edge(self.page_at(frame - groups), axis, high)
+        page_edge(self.page_at(area - groups), axis, high)
     }
 
-    fn item_named(&self, axis: Axis, name: &Name) -> Option<u16>
-        ensures value { result ≡ number_named self.now axis (OfItem name.now) }
+    fn number_of_item(&self, axis: Axis, name: &Name) -> Option<u16>
+        ensures value { result ≡ variable_number self.now axis (OfItem name.now) }
         ensures within { IfSome result (λ at. at < length (variables self.now axis)) }
     {
         match self.shapes.number_of(name) {
@@ -218,16 +218,16 @@ impl Scene {
     }
 
     fn edge_named(&self, axis: Axis, name: &Name, high: bool) -> Option<u16>
-        ensures value { result ≡ number_named self.now axis (if high then HighEdge name.now else LowEdge name.now) }
+        ensures value { result ≡ variable_number self.now axis (if high then HighEdge name.now else LowEdge name.now) }
         ensures within { IfSome result (λ at. at < length (variables self.now axis)) }
     {
-        let frame = self.frame_named(name)?;
-        let low_edge = self.first_edge(axis) + 2 * frame;
+        let area = self.area_named(name)?;
+        let low_edge = self.first_edge(axis) + 2 * area;
         Some(if high { low_edge + 1 } else { low_edge })
     }
 
     /// The number of the group or page of this name, the groups first.
-    fn frame_named(&self, name: &Name) -> Option<u16>
+    fn area_named(&self, name: &Name) -> Option<u16>
         ensures value { result ≡ position (same_name name.now) (group_names self.now.groups ++ page_names self.now.pages) }
         ensures few { IfSome result (λ number. number ≤ 33) }
     {

@@ -1,10 +1,10 @@
 use Rattle.std.proofs.Common.{ap, ◌∙◌}
 use Rattle.scene_model.specs.Items.{with_thing_at, count_of}
-use Rattle.scene_model.proofs.Sound.{IsWellFormed-put_back, with_thing_at-end}
+use Rattle.scene_model.proofs.Sound.{IsSound-put_back, with_thing_at-end}
 use Rattle.scene_model.proofs.scene.Scene.add.Goals as goal
 
 pub insert-requires-clause-sound : goal.insert-requires-clause-sound
-insert-requires-clause-sound c = IsWellFormed-put_back c.args.self.now c.count-at.result c.args.thing c.count-at.ensures.sound c.requires.free c.requires.sound c.requires.room
+insert-requires-clause-sound c = IsSound-put_back c.args.self.now c.count-at.result c.args.thing c.count-at.ensures.sound c.requires.free c.requires.sound c.requires.room
 
 pub returns-clause-added : goal.returns-clause-added
 returns-clause-added c =

@@ -3,14 +3,14 @@ use Rattle.std.specs.Prelude.{[]}
 use Rattle.std.specs.List.{IsDistinct}
 use Rattle.scene_model.specs.Names.{same_name}
 use Rattle.scene_model.specs.Diagram.{empty_diagram}
-use Rattle.scene_model.specs.Sound.{IsWellFormed}
+use Rattle.scene_model.specs.Sound.{IsSound}
 use Rattle.scene_model.proofs.scene.Scene.empty.Goals as goal
 
 none_differ : IsDistinct same_name []
 unfolding IsDistinct
 none_differ = tt
 
-empty_sound : IsWellFormed empty_diagram
+empty_sound : IsSound empty_diagram
 empty_sound = record {
   distinct = none_differ;
   counts = record { shapes = omega arith; guides = omega arith; links = omega arith; compounds = omega arith; groups = omega arith; pages = omega arith };
@@ -24,7 +24,7 @@ empty_sound = record {
 
 pub invariant_of-result : goal.invariant_of-result
 invariant_of-result c =
-    subst IsWellFormed
+    subst IsSound
     (sym (λ i. record {
       shapes = c.new.ensures i;
       guides = c.new-2.ensures i;

@@ -4,7 +4,7 @@ use Rattle.scene_model.specs.declared.items.Sort.TheVariants as sort
 use Rattle.scene_model.specs.declared.items.Thing.TheVariants as thing
 use Rattle.scene_model.specs.Names.{same_name}
 use Rattle.scene_model.specs.Diagram.{Diagram, sort_names}
-use Rattle.scene_model.specs.Sound.{IsWellFormed}
+use Rattle.scene_model.specs.Sound.{IsSound}
 use Rattle.scene_model.specs.Items.{with_replaced}
 use Rattle.scene_model.proofs.Places.{thing_stands}
 use Rattle.scene_model.proofs.AllNames.{sort_distinct}
@@ -20,7 +20,7 @@ set-requires-clause-stands c =
 
 pub invariant_of-self : goal.invariant_of-self
 invariant_of-self c =
-    subst IsWellFormed
+    subst IsSound
     (sym
     (ap (λ xs. record { shapes = xs; guides = c.self.inside.guides; links = c.self.inside.links; compounds = c.self.inside.compounds; groups = c.self.inside.groups; pages = c.self.inside.pages }) c.set.ensures
     ∙ (ap (λ (d : Diagram). with_replaced d (thing.Shape c.in-Shape.shape)) c.self.view_is ∙ ap (with_replaced c.args.self.now) (sym c.in-Shape.is))))
@@ -36,7 +36,7 @@ set-requires-in-Guide-clause-stands c =
 
 pub invariant_of-self-in-Guide : goal.invariant_of-self-in-Guide
 invariant_of-self-in-Guide c =
-    subst IsWellFormed
+    subst IsSound
     (sym
     (ap (λ xs. record { shapes = c.self.inside.shapes; guides = xs; links = c.self.inside.links; compounds = c.self.inside.compounds; groups = c.self.inside.groups; pages = c.self.inside.pages }) c.set-in-Guide.ensures
     ∙ (ap (λ (d : Diagram). with_replaced d (thing.Guide c.in-Guide.guide)) c.self.view_is ∙ ap (with_replaced c.args.self.now) (sym c.in-Guide.is))))
@@ -52,7 +52,7 @@ set-requires-in-Link-clause-stands c =
 
 pub invariant_of-self-in-Link : goal.invariant_of-self-in-Link
 invariant_of-self-in-Link c =
-    subst IsWellFormed
+    subst IsSound
     (sym
     (ap (λ xs. record { shapes = c.self.inside.shapes; guides = c.self.inside.guides; links = xs; compounds = c.self.inside.compounds; groups = c.self.inside.groups; pages = c.self.inside.pages }) c.set-in-Link.ensures
     ∙ (ap (λ (d : Diagram). with_replaced d (thing.Link c.in-Link.link)) c.self.view_is ∙ ap (with_replaced c.args.self.now) (sym c.in-Link.is))))
@@ -73,7 +73,7 @@ set-requires-in-Compound-clause-stands c =
 
 pub invariant_of-self-in-Compound : goal.invariant_of-self-in-Compound
 invariant_of-self-in-Compound c =
-    subst IsWellFormed
+    subst IsSound
     (sym
     (ap (λ xs. record { shapes = c.self.inside.shapes; guides = c.self.inside.guides; links = c.self.inside.links; compounds = xs; groups = c.self.inside.groups; pages = c.self.inside.pages }) c.set-in-Compound.ensures
     ∙ (ap (λ (d : Diagram). with_replaced d (thing.Compound c.in-Compound.compound)) c.self.view_is ∙ ap (with_replaced c.args.self.now) (sym c.in-Compound.is))))
@@ -89,7 +89,7 @@ set-requires-in-Group-clause-stands c =
 
 pub invariant_of-self-in-Group : goal.invariant_of-self-in-Group
 invariant_of-self-in-Group c =
-    subst IsWellFormed
+    subst IsSound
     (sym
     (ap (λ xs. record { shapes = c.self.inside.shapes; guides = c.self.inside.guides; links = c.self.inside.links; compounds = c.self.inside.compounds; groups = xs; pages = c.self.inside.pages }) c.set-in-Group.ensures
     ∙ (ap (λ (d : Diagram). with_replaced d (thing.Group c.in-Group.group)) c.self.view_is ∙ ap (with_replaced c.args.self.now) (sym c.in-Group.is))))
@@ -105,7 +105,7 @@ set-requires-in-Page-clause-stands c =
 
 pub invariant_of-self-in-Page : goal.invariant_of-self-in-Page
 invariant_of-self-in-Page c =
-    subst IsWellFormed
+    subst IsSound
     (sym
     (ap (λ xs. record { shapes = c.self.inside.shapes; guides = c.self.inside.guides; links = c.self.inside.links; compounds = c.self.inside.compounds; groups = c.self.inside.groups; pages = xs }) c.set-in-Page.ensures
     ∙ (ap (λ (d : Diagram). with_replaced d (thing.Page c.in-Page.page)) c.self.view_is ∙ ap (with_replaced c.args.self.now) (sym c.in-Page.is))))
