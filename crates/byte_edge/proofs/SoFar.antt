@@ -1,6 +1,6 @@
 -- What a source gave so far, when it is read in turns.
-use Rattle.std.proofs.Common.{◌≡◌, ℕ, ◌≤◌, List, ◌++◌, length, Some, None, Option, ap, sym, ◌∙◌, refl, length-append}
-use Rattle.std.proofs.lemmas.List.{append_assoc}
+use Rattle.std.proofs.Common.{◌≡◌, ℕ, ◌+◌, ◌≤◌, List, ◌++◌, length, take, Some, None, Option, ap, sym, ◌∙◌, refl, length-append}
+use Rattle.std.proofs.lemmas.List.{append_assoc, length-take-le}
 use Rattle.std.specs.Io.KnownBytes.{prepend_known}
 use Rattle.byte_edge.specs.Count.{count_on}
 use Rattle.byte_edge.specs.Given.{Gives}
@@ -24,3 +24,12 @@ gives-append left left' left'' given given' given'' xs ys first second = record 
   told = first.told ∙ ap (prepend_known xs) second.told ∙ prepend_known-prepend_known xs ys left'';
   counted = second.counted ∙ ap (λ count. count_on count (length ys)) first.counted ∙ count_on-add given (length xs) (length ys) ∙ ap (count_on given) (sym (length-append xs ys));
 }
+
+-- the front of a buffer was given behind other bytes
+pub gives-more : (left left' left'' : Option (List ℕ)) (given given' given'' : ℕ) (bytes buf : List ℕ) (n : ℕ) → n ≤ length buf
+    → Gives left left' given given' bytes → Gives left' left'' given' given'' (take n buf)
+    → (length (bytes ++ take n buf) ≡ length bytes + n) × Gives left left'' given given'' (bytes ++ take n buf)
+gives-more left left' left'' given given' given'' bytes buf n fits before more = (
+  length-append bytes (take n buf) ∙ ap (λ count. length bytes + count) (length-take-le n buf fits),
+  gives-append left left' left'' given given' given'' bytes (take n buf) before more,
+)

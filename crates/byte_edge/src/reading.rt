@@ -38,7 +38,8 @@ impl From<AllocError> for ReadStop {
 /// All bytes of a source to its end, which are at most `limit`.
 ///
 /// `Failed` comes only where a read failed, `TooLong` as soon as more than `limit` bytes were given before any
-/// failure. Whatever the answer, a source that told what is still to come goes on telling it.
+/// failure: the source has then given at most 4,096 bytes more than the limit. Whatever the answer, a source that
+/// told what is still to come goes on telling it.
 pub fn read_all<S: Source>(alloc: Global, source: &mut S, limit: usize) -> Result<Vec<u8>, ReadStop>
     // The answer is all that was still to come, and nothing is left.
     ensures gives { IfOk result (λ bytes. Gives (S.left source.old) (S.left source.new) (S.given source.old) (S.given source.new) bytes.items) }
@@ -49,6 +50,9 @@ pub fn read_all<S: Source>(alloc: Global, source: &mut S, limit: usize) -> Resul
     // TooLong comes exactly where more than the limit was given. After every other answer at most the limit was given.
     ensures past { result ≡ Err ReadStop.TooLong → GivesPast limit (S.left source.old) (S.left source.new) (S.given source.old) (S.given source.new) }
     ensures within { result ≢ Err ReadStop.TooLong → GivesWithin limit (S.left source.old) (S.left source.new) (S.given source.old) (S.given source.new) }
+
+    // After TooLong at most one buffer of 4,096 bytes more than the limit was given.
+    ensures one_buffer { result ≡ Err ReadStop.TooLong → GivesWithin (limit + 4096) (S.left source.old) (S.left source.new) (S.given source.old) (S.given source.new) }
 
     // The same in what the source told, and in its count of bytes.
     ensures too_long { result ≡ Err ReadStop.TooLong → IfSome (S.left source.old) (λ left. limit < length left) }

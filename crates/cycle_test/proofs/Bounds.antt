@@ -13,8 +13,9 @@ use Rattle.units.specs.declared.geometry.Sep.{Sep}
 use Rattle.units.specs.Problem.{IsSeparation}
 use Rattle.cycle_test.specs.declared.arc.CycleArc.{CycleArc}
 use Rattle.cycle_test.specs.declared.reach.Reach.{Reach}
-use Rattle.cycle_test.specs.Cycle.{IsArc, sep_at, no_sep, start_of, end_of, gap_of, gap_sum, starts, IsWalk}
-use Rattle.cycle_test.specs.Search.{reach_at, value_at, total, IsReached, IsState}
+use Rattle.units.specs.Separation.{separation_at, no_separation}
+use Rattle.cycle_test.specs.Cycle.{IsArc, start_of, end_of, gap_of, gap_sum, starts, IsWalk}
+use Rattle.cycle_test.specs.Search.{reach_at, value_at, value_sum, IsReached, IsState}
 use Rattle.cycle_test.proofs.Walks.{walk_of, sum_of, length_starts}
 
 -- both ends are below n, and the gap is within b of 0
@@ -37,11 +38,11 @@ pick_below false x y n l r = r
 
 pub start_below : (seps : List Sep) (n b : ℕ) (arc : CycleArc) → AreWithin n b seps → IsArc seps arc → start_of seps arc < n
 start_below seps n b arc within taken =
-    let sep = within arc.sep no_sep taken.among in pick_below arc.back (sep_at seps arc.sep).right (sep_at seps arc.sep).left n sep.right sep.left
+    let sep = within arc.sep no_separation taken.among in pick_below arc.back (separation_at seps arc.sep).right (separation_at seps arc.sep).left n sep.right sep.left
 
 pub end_below : (seps : List Sep) (n b : ℕ) (arc : CycleArc) → AreWithin n b seps → IsArc seps arc → end_of seps arc < n
 end_below seps n b arc within taken =
-    let sep = within arc.sep no_sep taken.among in pick_below arc.back (sep_at seps arc.sep).left (sep_at seps arc.sep).right n sep.left sep.right
+    let sep = within arc.sep no_separation taken.among in pick_below arc.back (separation_at seps arc.sep).left (separation_at seps arc.sep).right n sep.left sep.right
 
 pick_near : (back : Bool) (gap : ℤ) (b : ℕ) → nat_abs gap ≤ b → cond back (neg_ℤ gap) gap ≤ℤ pos b
 pick_near true gap b near = omega (arith, ints)
@@ -49,7 +50,7 @@ pick_near false gap b near = omega (arith, ints)
 
 pub gap_near : (seps : List Sep) (n b : ℕ) (arc : CycleArc) → AreWithin n b seps → IsArc seps arc → gap_of seps arc ≤ℤ pos b
 gap_near seps n b arc within taken =
-    let sep = within arc.sep no_sep taken.among in pick_near arc.back (sep_at seps arc.sep).gap b sep.gap
+    let sep = within arc.sep no_separation taken.among in pick_near arc.back (separation_at seps arc.sep).gap b sep.gap
 
 -- the variables of a walk are below n where its last one is
 pub visits_below : (seps : List Sep) (n b from : ℕ) (arcs : List CycleArc) (to : ℕ) → AreWithin n b seps →
@@ -98,7 +99,7 @@ value_below seps n b reaches v within reached below =
 
 -- and all of them together below b for each pair of variables
 pub total_below : (seps : List Sep) (n b : ℕ) (reaches : List Reach) → AreWithin n b seps → IsState seps reaches →
-    length reaches ≡ n → total reaches ≤ n * (b * n)
+    length reaches ≡ n → value_sum reaches ≤ n * (b * n)
 total_below seps n b reaches within state as_long =
     let each = All-from_get_or (λ (reach : Reach). reach.value ≤ b * n) reaches (record { value = 0; path = [] })
     (λ v below. value_below seps n b reaches v within (state v below) (omega arith)) in

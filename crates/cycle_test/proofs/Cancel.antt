@@ -3,9 +3,9 @@ use Rattle.std.proofs.Common.{◌≡◌, ℕ, zero, suc, ◌≤◌, ℤ, pos, ne
 use Rattle.std.proofs.lemmas.Int.{ints}
 use Rattle.std.proofs.lemmas.Bool.{false≢true}
 use Rattle.units.specs.declared.geometry.Sep.{Sep}
-use Rattle.units.specs.Separation.{IsApart, Satisfies, SatisfiesAll, place_of}
+use Rattle.units.specs.Separation.{IsApart, Satisfies, SatisfiesAll, place_of, separation_at, no_separation}
 use Rattle.cycle_test.specs.declared.arc.CycleArc.{CycleArc}
-use Rattle.cycle_test.specs.Cycle.{sep_at, no_sep, start_of, end_of, gap_of, gap_sum, IsWalk, IsPositiveCycle}
+use Rattle.cycle_test.specs.Cycle.{start_of, end_of, gap_of, gap_sum, IsWalk, IsPositiveCycle}
 
 -- q times a number, one more time
 times_suc : (q : ℕ) (z : ℤ) → pos (suc q) *ℤ z ≡ (pos q *ℤ z) +ℤ z
@@ -64,7 +64,7 @@ along : (seps : List Sep) (ys : List ℤ) (q from : ℕ) (arcs : List CycleArc) 
 along seps ys q from [] to satisfied walk =
     let stays : place_of ys from ≡ place_of ys to = ap (place_of ys) walk in omega (arith, ints, nothing q)
 along seps ys q from (arc ∷ arcs) to satisfied walk =
-    let one = arc_kept ys q (sep_at seps arc.sep) arc.back walk.0.both_ways (satisfied arc.sep no_sep walk.0.among) in
+    let one = arc_kept ys q (separation_at seps arc.sep) arc.back walk.0.both_ways (satisfied arc.sep no_separation walk.0.among) in
     rw (times_sum q (gap_of seps arc) (gap_sum seps arcs), ← walk.1)
     (join (pos q *ℤ gap_of seps arc) (pos q *ℤ gap_sum seps arcs) (place_of ys (start_of seps arc)) (place_of ys (end_of seps arc)) (place_of ys to) one (along seps ys q (end_of seps arc) arcs to satisfied walk.2))
 

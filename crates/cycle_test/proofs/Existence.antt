@@ -8,12 +8,12 @@ use Rattle.std.proofs.lemmas.List.{get_or_read, length-append}
 use Rattle.std.proofs.lemmas.List.Elements.{All-nil, All-cons, All-weaker, All-from_get_or}
 use Rattle.std.proofs.lemmas.List.Folds.{Any-from_list_any}
 use Rattle.units.specs.declared.geometry.Sep.{Sep}
-use Rattle.units.specs.Separation.{IsApart, Satisfies, place_of}
+use Rattle.units.specs.Separation.{IsApart, Satisfies, place_of, separation_at, no_separation}
 use Rattle.cycle_test.specs.declared.arc.CycleArc.{CycleArc}
 use Rattle.cycle_test.specs.declared.reach.Reach.{Reach}
-use Rattle.cycle_test.specs.Cycle.{sep_at, no_sep, IsArc, start_of, end_of, starts, HasPositiveCycle}
+use Rattle.cycle_test.specs.Cycle.{IsArc, start_of, end_of, starts, HasPositiveCycle}
 use Rattle.cycle_test.specs.Feasibility.{HasPlaces}
-use Rattle.cycle_test.specs.Search.{reach_at, value_at, asked_by, values, total, IsState, IsRaised}
+use Rattle.cycle_test.specs.Search.{reach_at, value_at, asked_by, values, value_sum, IsState, IsRaised}
 use Rattle.cycle_test.proofs.Walks.{length_starts}
 use Rattle.cycle_test.proofs.Bounds.{IsWithin, AreWithin, start_below, end_below}
 use Rattle.cycle_test.proofs.Cancel.{times_one}
@@ -56,30 +56,30 @@ satisfied_by reaches sep forth back =
     (apart_by (pos (value_at reaches sep.left)) (pos (value_at reaches sep.right)) sep.gap sep.exact forth back)
 
 -- a separation is satisfied, or one of its arcs asks for more
-tried_back : (seps : List Sep) (reaches : List Reach) (k : ℕ) (exact : Bool) → exact ≡ (sep_at seps k).exact → k < length seps →
-    (pos (value_at reaches (sep_at seps k).left) +ℤ (sep_at seps k).gap) ≤ℤ pos (value_at reaches (sep_at seps k).right) →
-    Satisfies (values reaches) 1 (sep_at seps k) ⊎ ((arc : CycleArc) × AsksMore seps reaches arc)
+tried_back : (seps : List Sep) (reaches : List Reach) (k : ℕ) (exact : Bool) → exact ≡ (separation_at seps k).exact → k < length seps →
+    (pos (value_at reaches (separation_at seps k).left) +ℤ (separation_at seps k).gap) ≤ℤ pos (value_at reaches (separation_at seps k).right) →
+    Satisfies (values reaches) 1 (separation_at seps k) ⊎ ((arc : CycleArc) × AsksMore seps reaches arc)
 tried_back seps reaches k true is within forth =
-    by_lt_z (pos (value_at reaches (sep_at seps k).left)) (pos (value_at reaches (sep_at seps k).right) +ℤ neg_ℤ (sep_at seps k).gap)
+    by_lt_z (pos (value_at reaches (separation_at seps k).left)) (pos (value_at reaches (separation_at seps k).right) +ℤ neg_ℤ (separation_at seps k).gap)
     (λ more. inr (record { sep = k; back = true }, record { taken = record { among = within; both_ways = λ _. sym is }; more = more }))
-    (λ back. inl (satisfied_by reaches (sep_at seps k) forth (λ _. back)))
+    (λ back. inl (satisfied_by reaches (separation_at seps k) forth (λ _. back)))
 tried_back seps reaches k false is within forth =
-    inl (satisfied_by reaches (sep_at seps k) forth (λ says. absurd (false≢true (is ∙ says))))
+    inl (satisfied_by reaches (separation_at seps k) forth (λ says. absurd (false≢true (is ∙ says))))
 
 tried_one : (seps : List Sep) (reaches : List Reach) (k : ℕ) → k < length seps →
-    Satisfies (values reaches) 1 (sep_at seps k) ⊎ ((arc : CycleArc) × AsksMore seps reaches arc)
+    Satisfies (values reaches) 1 (separation_at seps k) ⊎ ((arc : CycleArc) × AsksMore seps reaches arc)
 tried_one seps reaches k within =
-    by_lt_z (pos (value_at reaches (sep_at seps k).right)) (pos (value_at reaches (sep_at seps k).left) +ℤ (sep_at seps k).gap)
+    by_lt_z (pos (value_at reaches (separation_at seps k).right)) (pos (value_at reaches (separation_at seps k).left) +ℤ (separation_at seps k).gap)
     (λ more. inr (record { sep = k; back = false }, record { taken = record { among = within; both_ways = λ says. absurd (false≢true says) }; more = more }))
-    (λ forth. tried_back seps reaches k (sep_at seps k).exact refl within forth)
+    (λ forth. tried_back seps reaches k (separation_at seps k).exact refl within forth)
 
-tried : (seps : List Sep) (reaches : List Reach) (k : ℕ) → k ≤ length seps → ((j : ℕ) → j < k → Satisfies (values reaches) 1 (sep_at seps j)) ⊎ ((arc : CycleArc) × AsksMore seps reaches arc)
+tried : (seps : List Sep) (reaches : List Reach) (k : ℕ) → k ≤ length seps → ((j : ℕ) → j < k → Satisfies (values reaches) 1 (separation_at seps j)) ⊎ ((arc : CycleArc) × AsksMore seps reaches arc)
 tried seps reaches zero within = inl (λ j below. absurd (omega arith))
 tried seps reaches (suc k) within =
     ⊎_elim
     (λ before. ⊎_elim
     (λ here. inl (λ j below. ⊎_elim
-    (λ same. subst (λ (i : ℕ). Satisfies (values reaches) 1 (sep_at seps i)) (sym same) here)
+    (λ same. subst (λ (i : ℕ). Satisfies (values reaches) 1 (separation_at seps i)) (sym same) here)
     (λ other. before j (omega arith))
     (cases_eq j k)))
     (λ asks. inr asks)
@@ -126,11 +126,11 @@ stepped seps n b reaches arc false within state as_long asks is =
     )
 
 followed : (fuel : ℕ) (seps : List Sep) (n b : ℕ) (reaches : List Reach) → AreWithin n b seps → IsState seps reaches →
-    length reaches ≡ n → n * (b * n) - total reaches < fuel → HasPlaces seps ⊎ HasPositiveCycle seps
+    length reaches ≡ n → n * (b * n) - value_sum reaches < fuel → HasPlaces seps ⊎ HasPositiveCycle seps
 followed zero seps n b reaches within state as_long left = absurd (omega arith)
 followed (suc fuel) seps n b reaches within state as_long left =
     ⊎_elim
-    (λ all. inl (values reaches, All-from_get_or (λ separation. Satisfies (values reaches) 1 separation) seps no_sep all))
+    (λ all. inl (values reaches, All-from_get_or (λ separation. Satisfies (values reaches) 1 separation) seps no_separation all))
     (λ asks. ⊎_elim
     (λ cycle. inr cycle)
     (λ rise.
@@ -145,4 +145,4 @@ one_of_both seps =
     let n = limits.0 in
     let none : Reach = record { value = 0; path = [] } in
     let start = begins seps n (replicate n none) refl in
-    followed (suc (n * (limits.1 * n) - total (replicate n none))) seps n limits.1 (replicate n none) limits.2 start.1 start.0 (omega arith)
+    followed (suc (n * (limits.1 * n) - value_sum (replicate n none))) seps n limits.1 (replicate n none) limits.2 start.1 start.0 (omega arith)

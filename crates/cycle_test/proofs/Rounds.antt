@@ -6,7 +6,7 @@ use Rattle.units.specs.declared.geometry.Sep.{Sep}
 use Rattle.units.specs.Separation.{SatisfiesAll}
 use Rattle.cycle_test.specs.declared.reach.Reach.{Reach}
 use Rattle.cycle_test.specs.Cycle.{starts}
-use Rattle.cycle_test.specs.Search.{reach_at, values, total, Climbs, IsReached, IsState, IsRaised}
+use Rattle.cycle_test.specs.Search.{reach_at, values, value_sum, Climbs, IsReached, IsState, IsRaised}
 use Rattle.cycle_test.proofs.Bounds.{AreWithin, total_below}
 
 one_distinct : (v : ℕ) → IsDistinct nat_eq (v ∷ [])
@@ -33,7 +33,7 @@ begins seps n reaches is =
 
 -- a round that raised a value brings the values nearer to their bound
 pub nearer : (seps : List Sep) (n b : ℕ) (old new : List Reach) → AreWithin n b seps → length old ≡ n → IsRaised seps old new →
-    n * (b * n) - total new < n * (b * n) - total old
+    n * (b * n) - value_sum new < n * (b * n) - value_sum old
 nearer seps n b old new within as_long rise =
     omega (arith, rise.more, total_below seps n b new within rise.state (rise.same_length ∙ as_long))
 

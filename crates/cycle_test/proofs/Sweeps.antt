@@ -1,27 +1,26 @@
--- Outcomes one after another.
+-- Relaxations one after another.
 use Rattle.std.proofs.Common.{◌≡◌, ℕ, ◌+◌, ◌<◌, ◌≤◌, List, length, Bool, true, false, MatchBool, sym, ap, ◌∙◌, arith, subst, ⊎_elim}
 use Rattle.std.proofs.lemmas.Bool.{cases_eq}
 use Rattle.std.proofs.lemmas.List.Elements.{All-from_get_or}
 use Rattle.units.specs.declared.geometry.Sep.{Sep}
-use Rattle.units.specs.Separation.{Satisfies, SatisfiesAll}
+use Rattle.units.specs.Separation.{Satisfies, SatisfiesAll, separation_at, no_separation}
 use Rattle.cycle_test.specs.declared.reach.Reach.{Reach}
-use Rattle.cycle_test.specs.declared.reach.Outcome.{Outcome}
-use Rattle.cycle_test.specs.declared.reach.Outcome.TheVariants.{AtRest}
-use Rattle.cycle_test.specs.Cycle.{sep_at, no_sep}
-use Rattle.cycle_test.specs.Search.{values, IsState, IsRaised, IsOutcome}
+use Rattle.cycle_test.specs.declared.reach.Relaxation.{Relaxation}
+use Rattle.cycle_test.specs.declared.reach.Relaxation.TheVariants.{AtRest}
+use Rattle.cycle_test.specs.Search.{values, IsState, IsRaised, IsRelaxation}
 
 -- after the first k separations were tried: nothing changed and they are satisfied, or some value rose
 abbrev pub IsSwept : List Sep → List Reach → List Reach → Bool → ℕ → Type 0
 IsSwept seps old new raised k =
-    MatchBool raised (IsRaised seps old new) ((new ≡ old) × ((j : ℕ) → j < k → Satisfies (values old) 1 (sep_at seps j)))
+    MatchBool raised (IsRaised seps old new) ((new ≡ old) × ((j : ℕ) → j < k → Satisfies (values old) 1 (separation_at seps j)))
 
 -- nothing changed
 pub state_same : (seps : List Sep) (old new : List Reach) → new ≡ old → IsState seps old → IsState seps new
 state_same seps old new same state = subst (IsState seps) (sym same) state
 
-pub same_at_rest : (seps : List Sep) (old new : List Reach) (Rests : Type 0) (outcome : Outcome) →
-    IsOutcome seps old new Rests outcome → outcome ≡ AtRest → new ≡ old
-same_at_rest seps old new Rests outcome told is = (subst (IsOutcome seps old new Rests) is told).0
+pub same_at_rest : (seps : List Sep) (old new : List Reach) (Rests : Type 0) (relaxation : Relaxation) →
+    IsRelaxation seps old new Rests relaxation → relaxation ≡ AtRest → new ≡ old
+same_at_rest seps old new Rests relaxation told is = (subst (IsRelaxation seps old new Rests) is told).0
 
 -- rises one after another
 raised_twice : (seps : List Sep) (first second third : List Reach) → IsRaised seps first second → IsRaised seps second third →
@@ -44,13 +43,13 @@ swept_length seps old new false k swept = ap (λ (xs : List Reach). length xs) s
 
 -- one separation more, at rest
 pub swept_rest : (seps : List Sep) (old mid new : List Reach) (raised : Bool) (k : ℕ) → IsSwept seps old mid raised k →
-    (new ≡ mid) × Satisfies (values mid) 1 (sep_at seps k) → IsSwept seps old new raised (k + 1)
+    (new ≡ mid) × Satisfies (values mid) 1 (separation_at seps k) → IsSwept seps old new raised (k + 1)
 swept_rest seps old mid new true k swept rest = subst (λ (xs : List Reach). IsRaised seps old xs) (sym rest.0) swept
 swept_rest seps old mid new false k swept rest = (
   rest.0 ∙ swept.0,
   λ j below.
       ⊎_elim
-      (λ same. subst (λ (i : ℕ). Satisfies (values old) 1 (sep_at seps i)) (sym same) (subst (λ (xs : List Reach). Satisfies (values xs) 1 (sep_at seps k)) swept.0 rest.1))
+      (λ same. subst (λ (i : ℕ). Satisfies (values old) 1 (separation_at seps i)) (sym same) (subst (λ (xs : List Reach). Satisfies (values xs) 1 (separation_at seps k)) swept.0 rest.1))
       (λ other. swept.1 j (omega arith))
       (cases_eq j k),
 )
@@ -70,4 +69,4 @@ pub swept_at_rest : (seps : List Sep) (old new : List Reach) (raised : Bool) (k 
     IsSwept seps old new raised k → (new ≡ old) × SatisfiesAll (values old) 1 seps
 swept_at_rest seps old new raised k is all swept =
     let rest = subst (λ (was : Bool). IsSwept seps old new was k) is swept in
-    (rest.0, All-from_get_or (λ separation. Satisfies (values old) 1 separation) seps no_sep (λ j below. rest.1 j (omega arith)))
+    (rest.0, All-from_get_or (λ separation. Satisfies (values old) 1 separation) seps no_separation (λ j below. rest.1 j (omega arith)))

@@ -1,34 +1,27 @@
 -- Arcs of a list of separations, and the positive cycles that make the list infeasible. The idea is that of the longest paths in
 -- a graph of difference constraints (Bellman and Ford); exact separations, which are arcs both ways, are this project's own.
-use Rattle.std.specs.Prelude.{◌≡◌, ℕ, ◌<◌, ℤ, pos, neg_ℤ, ◌+ℤ◌, ◌<ℤ◌, List, [], ◌∷◌, length, map, false, IsTrue, nat_eq, slice_index_or, if◌then◌else◌}
+use Rattle.std.specs.Prelude.{◌≡◌, ℕ, ◌<◌, ℤ, pos, neg_ℤ, ◌+ℤ◌, ◌<ℤ◌, List, [], ◌∷◌, length, map, IsTrue, nat_eq, if◌then◌else◌}
 use Rattle.std.specs.List.{IsDistinct}
 use Rattle.units.specs.declared.geometry.Sep.{Sep}
+use Rattle.units.specs.Separation.{separation_at}
 use Rattle.cycle_test.specs.declared.arc.CycleArc.{CycleArc}
-
--- what is read past the end of a list
-abbrev pub no_sep : Sep
-no_sep = record { left = 0; right = 0; gap = pos 0; exact = false }
-
--- the separation of this number
-abbrev pub sep_at : List Sep → ℕ → Sep
-sep_at seps k = slice_index_or seps k no_sep
 
 -- an arc is a separation of the list, taken forwards, or taken back where it is exact
 pub record IsArc (seps : List Sep) (arc : CycleArc) : Type 0 where
   pub among : arc.sep < length seps
-  pub both_ways : IsTrue arc.back → IsTrue (sep_at seps arc.sep).exact
+  pub both_ways : IsTrue arc.back → IsTrue (separation_at seps arc.sep).exact
 
 -- the variable that an arc leaves: the left one, or the right one where it is taken back
 abbrev pub start_of : List Sep → CycleArc → ℕ
-start_of seps arc = if arc.back then (sep_at seps arc.sep).right else (sep_at seps arc.sep).left
+start_of seps arc = if arc.back then (separation_at seps arc.sep).right else (separation_at seps arc.sep).left
 
 -- the variable that an arc reaches
 abbrev pub end_of : List Sep → CycleArc → ℕ
-end_of seps arc = if arc.back then (sep_at seps arc.sep).left else (sep_at seps arc.sep).right
+end_of seps arc = if arc.back then (separation_at seps arc.sep).left else (separation_at seps arc.sep).right
 
 -- the gap of an arc, in diagram units: where it ends is at least this far behind where it starts. Taken back, the gap is negated
 abbrev pub gap_of : List Sep → CycleArc → ℤ
-gap_of seps arc = if arc.back then neg_ℤ (sep_at seps arc.sep).gap else (sep_at seps arc.sep).gap
+gap_of seps arc = if arc.back then neg_ℤ (separation_at seps arc.sep).gap else (separation_at seps arc.sep).gap
 
 -- arcs that lead from one variable to another, each starting where the one before it ends
 abbrev pub IsWalk : List Sep → ℕ → List CycleArc → ℕ → Type 0

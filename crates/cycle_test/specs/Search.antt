@@ -4,8 +4,8 @@ use Rattle.std.specs.List.{IsDistinct, sum_by}
 use Rattle.units.specs.declared.geometry.Sep.{Sep}
 use Rattle.cycle_test.specs.declared.arc.CycleArc.{CycleArc}
 use Rattle.cycle_test.specs.declared.reach.Reach.{Reach}
-use Rattle.cycle_test.specs.declared.reach.Outcome.{Outcome}
-use Rattle.cycle_test.specs.declared.reach.Outcome.TheVariants.{AtRest, Raised, Cycle}
+use Rattle.cycle_test.specs.declared.reach.Relaxation.{Relaxation}
+use Rattle.cycle_test.specs.declared.reach.Relaxation.TheVariants.{AtRest, Raised, Cycle}
 use Rattle.cycle_test.specs.Cycle.{IsArc, start_of, end_of, gap_of, starts, IsPositiveCycle}
 
 -- how the variable was reached; past the end, not at all
@@ -29,8 +29,8 @@ abbrev pub values : List Reach → List ℤ
 values reaches = map (λ (reach : Reach). pos reach.value) reaches
 
 -- what all values add up to
-abbrev pub total : List Reach → ℕ
-total reaches = sum_by (λ (reach : Reach). reach.value) reaches
+abbrev pub value_sum : List Reach → ℕ
+value_sum reaches = sum_by (λ (reach : Reach). reach.value) reaches
 
 -- arcs that lead from one variable to another while the sum goes from low to high; where an arc starts, the sum so far is at most
 -- the present value there
@@ -53,10 +53,10 @@ IsState seps reaches = (v : ℕ) → v < length reaches → IsReached seps reach
 pub record IsRaised (seps : List Sep) (old new : List Reach) : Type 0 where
   pub same_length : length new ≡ length old
   pub state : IsState seps new
-  pub more : total old < total new
+  pub more : value_sum old < value_sum new
 
--- what an outcome says: nothing changed and what was tried is at rest, or some value rose, or here is a positive cycle
-abbrev pub IsOutcome : List Sep → List Reach → List Reach → Type 0 → Outcome → Type 0
-IsOutcome seps old new Rests AtRest = (new ≡ old) × Rests
-IsOutcome seps old new Rests Raised = IsRaised seps old new
-IsOutcome seps old new Rests (Cycle arcs) = IsPositiveCycle seps arcs
+-- what a relaxation came to: nothing changed and what was tried is at rest, or some value rose, or here is a positive cycle
+abbrev pub IsRelaxation : List Sep → List Reach → List Reach → Type 0 → Relaxation → Type 0
+IsRelaxation seps old new Rests AtRest = (new ≡ old) × Rests
+IsRelaxation seps old new Rests Raised = IsRaised seps old new
+IsRelaxation seps old new Rests (Cycle arcs) = IsPositiveCycle seps arcs

@@ -13,7 +13,8 @@ pub struct CycleArc {
 }
 
 impl CycleArc {
-    ghost use Rattle.cycle_test.specs.Cycle.{IsArc, sep_at, start_of, end_of, gap_of};
+    ghost use Rattle.units.specs.Separation.{separation_at};
+    ghost use Rattle.cycle_test.specs.Cycle.{IsArc, start_of, end_of, gap_of};
 
     /// The variable that it leaves.
     pub(crate) fn start(self, seps: &[Sep]) -> u16
@@ -36,7 +37,7 @@ impl CycleArc {
     /// Its gap in diagram units, negated where it is taken back.
     pub(crate) fn gap(self, seps: &[Sep]) -> i32
         requires arc { IsArc seps.now self }
-        requires near { nat_abs (sep_at seps.now self.sep).gap ≤ 1000000 }
+        requires near { nat_abs (separation_at seps.now self.sep).gap ≤ 1000000 }
         ensures { result ≡ gap_of seps.now self }
     {
         let gap = seps[self.sep as usize].gap;

@@ -15,11 +15,14 @@ pub struct Reach {
     pub path: Sequence<CycleArc>,
 }
 
-/// What came of trying to raise values.
+/// What relaxing an arc, a separation or the whole list came to.
 #[derive(Drop)]
-pub enum Outcome {
+pub enum Relaxation {
+    /// Nothing asked for more.
     AtRest,
+    /// Some value rose.
     Raised,
+    /// An arc closed a positive cycle.
     Cycle(Sequence<CycleArc>),
 }
 

@@ -2,10 +2,10 @@
 ghost use Rattle.std.specs.Prelude.{◌≡◌, ◌<◌, length, ◌≤◌, All, IfOk, pos, ◌+ℤ◌, ◌≤ℤ◌};
 ghost use Rattle.units.specs.Problem.{IsSeparation};
 ghost use Rattle.cycle_test.specs.Cycle.{IsArc, start_of, end_of, gap_of};
-ghost use Rattle.cycle_test.specs.Search.{IsState, IsOutcome, IsContent, asked_by};
+ghost use Rattle.cycle_test.specs.Search.{IsState, IsRelaxation, IsContent, asked_by};
 
 use crate::CycleArc;
-use crate::reach::{Outcome, Reach, extended, path_of, value_of, visit};
+use crate::reach::{Reach, Relaxation, extended, path_of, value_of, visit};
 use std::alloc::{AllocError, Global};
 use units::Sep;
 
@@ -24,22 +24,22 @@ pub fn relax(
     seps: &[Sep],
     reaches: &mut Vec<Reach>,
     arc: CycleArc,
-) -> Result<Outcome, AllocError>
+) -> Result<Relaxation, AllocError>
     requires few { length reaches.old.items ≤ 258 }
     requires state { IsState seps.now reaches.old.items }
     requires sound { All (λ separation. IsSeparation (length reaches.old.items) separation) seps.now }
     requires arc { IsArc seps.now arc }
-    ensures { IfOk result (IsOutcome seps.now reaches.old.items reaches.new.items (IsContent seps.now reaches.old.items arc)) }
+    ensures { IfOk result (IsRelaxation seps.now reaches.old.items reaches.new.items (IsContent seps.now reaches.old.items arc)) }
 {
     let from = arc.start(seps);
     let to = arc.end(seps);
     let asked = asked_by(seps, reaches, arc);
     if asked <= i64::from(value_of(reaches, to)) {
-        return Ok(Outcome::AtRest);
+        return Ok(Relaxation::AtRest);
     }
     let path = path_of(reaches, from);
     match visit(seps, path, from, to) {
-        Some(k) => return Ok(Outcome::Cycle(extended(alloc, &path[k..], arc)?)),
+        Some(k) => return Ok(Relaxation::Cycle(extended(alloc, &path[k..], arc)?)),
         None => {}
     }
     let path = extended(alloc, path, arc)?;
@@ -47,5 +47,5 @@ pub fn relax(
         value: asked as u32,
         path,
     };
-    Ok(Outcome::Raised)
+    Ok(Relaxation::Raised)
 }

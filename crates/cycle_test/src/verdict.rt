@@ -7,7 +7,7 @@ ghost use Rattle.cycle_test.specs.Feasibility.{IfPlaces, IfCycle, is_cycle};
 ghost use Rattle.cycle_test.specs.Search.{values};
 
 use crate::CycleArc;
-use crate::reach::{Outcome, Reach};
+use crate::reach::{Reach, Relaxation};
 use crate::sweep::sweep;
 use std::alloc::{AllocError, Global};
 use units::{Memory, Sep, Sequence};
@@ -66,9 +66,9 @@ pub fn test(alloc: Global, n: u16, seps: &[Sep]) -> Result<Verdict, Memory>
     let mut reaches = unreached(alloc, n)?;
     'rounds: loop {
         match sweep(alloc, seps, &mut reaches)? {
-            Outcome::AtRest => return Ok(Verdict::Places(places_of(alloc, &reaches)?)),
-            Outcome::Raised => {}
-            Outcome::Cycle(arcs) => return Ok(Verdict::Cycle(arcs)),
+            Relaxation::AtRest => return Ok(Verdict::Places(places_of(alloc, &reaches)?)),
+            Relaxation::Raised => {}
+            Relaxation::Cycle(arcs) => return Ok(Verdict::Cycle(arcs)),
         }
     }
 }

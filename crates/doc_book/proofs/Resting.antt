@@ -18,7 +18,7 @@ use Rattle.scene_model.specs.Sound.{IsSound}
 use Rattle.scene_model.proofs.Bounds.{variables-count, variables-weighted}
 use Rattle.scene_model.specs.Variables.{variables}
 use Rattle.scene_model.specs.declared.variables.Variable.{Variable}
-use Rattle.frac128.specs.Fraction.{whole, minus_whole, times, minus, ◌≈◌, IsLowest}
+use Rattle.frac128.specs.Fraction.{whole, minus_whole, multiple, minus, ◌≈◌, IsLowest}
 use Rattle.multiplier_check.specs.declared.certificate.Certificate.{Certificate}
 use Rattle.multiplier_check.specs.Placement.{Placement, IsPlacement, Keeps}
 use Rattle.multiplier_check.specs.Certificate.{fraction_at, IsNear, IsBalanced, IsCertificate}
@@ -72,7 +72,7 @@ balanced : (w : List ℕ) (vs : List ℤ) (i : ℕ) → IsBalanced (record { wei
 unfolding lib.IntN.one
 balanced w vs i = rw (fraction_at-whole vs i) (still (2 * slice_index w i) (slice_index_or vs i (pos 0)))
   where
-    still : (n : ℕ) (v : ℤ) → times n (minus_whole (whole v) v) ≈ minus (whole (pos 0)) (whole (pos 0))
+    still : (n : ℕ) (v : ℤ) → multiple n (minus_whole (whole v) v) ≈ minus (whole (pos 0)) (whole (pos 0))
     still n v = ap (λ d. (pos n *ℤ (v -ℤ d)) *ℤ pos 1) (*ℤ-one v) ∙ ap (λ d. (pos n *ℤ d) *ℤ pos 1) (none v) ∙ ap (λ d. d *ℤ pos 1) (*ℤ-zero (pos n))
       where
         none : (v : ℤ) → v -ℤ v ≡ pos 0

@@ -5,5 +5,5 @@ pub relax-requires-then-seps-sep-clause-state : goal.relax-requires-then-seps-se
 relax-requires-then-seps-sep-clause-state c =
     let old = c.args.reaches.now.items in
     let new = c.relax.new.reaches.items in
-    let same = same_at_rest c.args.seps.now old new _ c.in_ok-outcome.outcome c.in_ok-outcome.ensures c.in-AtRest.is in
+    let same = same_at_rest c.args.seps.now old new _ c.in_ok-other.other c.in_ok-other.ensures c.in-AtRest.is in
     state_same c.args.seps.now old new same c.requires.state

@@ -1,5 +1,5 @@
 use Rattle.std.proofs.Common.{subst, arith}
-use Rattle.cycle_test.specs.Search.{IsOutcome}
+use Rattle.cycle_test.specs.Search.{IsRelaxation}
 use Rattle.cycle_test.proofs.Sweeps.{swept_state, swept_rest, swept_rise, swept_raised, swept_at_rest}
 use Rattle.cycle_test.proofs.sweep.sweep.Goals as goal
 use Rattle.cycle_test.proofs.sweep.sweep.Goals.{in-AtRest, in-Raised, then-raised, else-raised}
@@ -15,8 +15,8 @@ loop-sep-preserved c =
     let mid = c.loop-sep.reaches.items in
     let new = c.relax_separation.new.reaches.items in
     elim c.match-branch-2.branch [
-      | in-AtRest w ↦ rw w.raised-is (swept_rest seps old mid new c.loop-sep.raised c.loop-sep.sep c.loop-sep.invariant (subst (IsOutcome seps mid new _) w.in-AtRest.is c.in_ok-relax_separation.ensures))
-      | in-Raised w ↦ rw w.raised-is (swept_rise seps old mid new c.loop-sep.raised c.loop-sep.sep c.loop-sep.invariant (subst (IsOutcome seps mid new _) w.in-Raised.is c.in_ok-relax_separation.ensures))
+      | in-AtRest w ↦ rw w.raised-is (swept_rest seps old mid new c.loop-sep.raised c.loop-sep.sep c.loop-sep.invariant (subst (IsRelaxation seps mid new _) w.in-AtRest.is c.in_ok-relax_separation.ensures))
+      | in-Raised w ↦ rw w.raised-is (swept_rise seps old mid new c.loop-sep.raised c.loop-sep.sep c.loop-sep.invariant (subst (IsRelaxation seps mid new _) w.in-Raised.is c.in_ok-relax_separation.ensures))
     ]
 
 pub returns : goal.returns

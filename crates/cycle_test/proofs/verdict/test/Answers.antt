@@ -1,6 +1,6 @@
 use Rattle.std.proofs.Common.{List, subst, ap, ◌∙◌}
 use Rattle.cycle_test.specs.declared.reach.Reach.{Reach}
-use Rattle.cycle_test.specs.Search.{IsOutcome, values}
+use Rattle.cycle_test.specs.Search.{IsRelaxation, values}
 use Rattle.cycle_test.proofs.Bounds.{within_limits}
 use Rattle.cycle_test.proofs.Rounds.{begins, nearer, rests}
 use Rattle.cycle_test.proofs.Verdicts.{no_cycle}
@@ -14,7 +14,7 @@ returns-in-AtRest c =
     let seps = c.args.seps.now in
     let old = c.rounds.reaches.items in
     let new = c.sweep.new.reaches.items in
-    let rest = subst (IsOutcome seps old new _) c.in-AtRest.is c.in_ok-sweep.ensures in
+    let rest = subst (IsRelaxation seps old new _) c.in-AtRest.is c.in_ok-sweep.ensures in
     let places = c.in_ok-places_of-in-AtRest.field-0 in
     let met = rests seps c.args.n old new places c.rounds.invariant.0 rest
     (c.in_ok-places_of-in-AtRest.ensures ∙ ap (λ (xs : List Reach). values xs) c.deref.ensures.value) in
@@ -25,5 +25,5 @@ rounds-smaller c =
     let seps = c.args.seps.now in
     let old = c.rounds.reaches.items in
     let new = c.sweep.new.reaches.items in
-    let rise = subst (IsOutcome seps old new _) c.in-Raised.is c.in_ok-sweep.ensures in
+    let rise = subst (IsRelaxation seps old new _) c.in-Raised.is c.in_ok-sweep.ensures in
     nearer seps c.args.n 1000000 old new (within_limits c.args.n seps c.requires.sound) c.rounds.invariant.0 rise
