@@ -1,6 +1,6 @@
 -- What a diagram that accepts an edit tells of it.
-use Rattle.std.proofs.Common.{◌≡◌, ◌≤◌, ℤ, ◌≤ℤ◌, List, [], ◌∷◌, ◌++◌, Bool, true, false, cond, ◌||◌, length, Option, Some, None, refl, ap, sym, ◌∙◌, subst, arith}
-use Rattle.std.specs.Prelude.{find, not, nat_lt, nat_le, int_lt, IfSome}
+use Rattle.std.proofs.Common.{◌≡◌, ◌≤◌, ℤ, ◌≤ℤ◌, List, [], ◌∷◌, ◌++◌, Bool, true, false, cond, ◌||◌, length, map, Option, Some, None, refl, ap, sym, ◌∙◌, subst, arith}
+use Rattle.std.specs.Prelude.{find, not, nat_lt, nat_le, IfSome}
 use Rattle.std.specs.List.{AllByRecursion, list_any, IsDistinct}
 use Rattle.std.specs.Option.{option_map, option_map_or, is_some}
 use Rattle.std.proofs.lemmas.Int.{ints}
@@ -8,37 +8,47 @@ use Rattle.std.proofs.lemmas.Bool.{leb-false, ltb-false}
 use Rattle.units.specs.declared.geometry.Axis.TheVariants.{X, Y}
 use Rattle.scene_model.specs.declared.items.Item.{Item}
 use Rattle.scene_model.specs.declared.items.Sort.{Sort}
+use Rattle.scene_model.specs.declared.items.Sort.TheVariants as sort
 use Rattle.scene_model.specs.declared.items.Thing.{Thing}
 use Rattle.scene_model.specs.declared.items.Thing.TheVariants as thing
+use Rattle.scene_model.specs.declared.uses.Wanted.{Wanted}
+use Rattle.scene_model.specs.declared.uses.Wanted.TheVariants as wanted
 use Rattle.scene_model.specs.Names.{NameOf, same_name}
 use Rattle.scene_model.specs.Diagram.{Diagram, most_of, all_sorts}
-use Rattle.scene_model.specs.Uses.{Use, stands_as, IsUser, most_members, user_of}
+use Rattle.scene_model.specs.Uses.{Use, each, stands_as, IsUser, most_members, user_of, link_uses, rule_uses, rule_row, group_uses}
 use Rattle.scene_model.specs.Sound.{IsSound, IsCoordinate}
 use Rattle.scene_model.specs.Items.{stands, count_of, item_named, sort_named, thing_named, thing_found, name_of_thing, sort_of, IsThing, HasRoomFor, without}
 use Rattle.scene_model.proofs.Named.{same_name-sym}
-use Rattle.scene_model.proofs.Places.{item_found, sort_at, thing_found_is, is_some-in}
+use Rattle.scene_model.proofs.Places.{item_found, sort_at, sort_stands, thing_found_is, is_some-in}
 use Rattle.scene_model.proofs.Sound.{unused, IsUnused, IsFree, IsFree-unused, IsSound-without}
 use Rattle.edit_rules.specs.declared.edits.Edit.{Edit}
 use Rattle.edit_rules.specs.declared.edits.Edit.TheVariants as edit
+use Rattle.edit_rules.specs.declared.naming.Ask.{Ask}
+use Rattle.edit_rules.specs.declared.naming.Kind.{Kind}
+use Rattle.edit_rules.specs.declared.naming.Kind.TheVariants as kind
+use Rattle.edit_rules.specs.declared.naming.NewItem.{NewItem}
 use Rattle.edit_rules.specs.declared.ranges.Ranged.{Ranged}
 use Rattle.edit_rules.specs.declared.refusals.Refusal.{Refusal}
 use Rattle.edit_rules.specs.declared.refusals.Refusal.TheVariants as refusal
-use Rattle.edit_rules.specs.Ranges.{coordinate, extent, page_extent, border, is_outside}
+use Rattle.edit_rules.specs.Ranges.{coordinate, extent, page_extent, border, is_outside, numbers}
 use Rattle.edit_rules.specs.Effects.{made}
-use Rattle.edit_rules.specs.Refusals.{numbers, range_refusal, unknown_refusal, taken_refusal, kind_refusal, changed_kind, kind_among, first_of, first_twice, twice_refusal, in_use_refusal, members_refusal, count_refusal, limit_refusal, refusal_of, old_name, may_change, uses_of, row_of, uses, row}
-use Rattle.edit_rules.proofs.Corners.{low_corner-near, high_corner-near}
+use Rattle.edit_rules.specs.Naming.{naming, is_sort_of, has_sort_of, is_of_kind, each_as, old_names}
+use Rattle.edit_rules.specs.Refusals.{range_refusal, unknown_among, taken_refusal, kind_among, first_of, first_twice, twice_among, in_use_refusal, members_refusal, count_refusal, full_refusal, refusal_of}
+use Rattle.edit_rules.proofs.Edges.{low_corner-near, high_corner-near}
+use Rattle.edit_rules.proofs.Judging.{in_range}
 
 -- ---- no refusal
 
 -- there is none of the refusals
 pub record IsAccepted (d : Diagram) (e : Edit) : Type 0 where
   pub range : range_refusal e ≡ None
-  pub unknown : unknown_refusal d e ≡ None
-  pub taken : taken_refusal d e ≡ None
-  pub kind : kind_refusal d e ≡ None
-  pub twice : twice_refusal d e ≡ None
-  pub in_use : in_use_refusal d e ≡ None
-  pub limit : limit_refusal d e ≡ None
+  pub unknown : unknown_among d (old_names e) ≡ None
+  pub taken : taken_refusal d (naming e).makes ≡ None
+  pub kind : kind_among d (naming e).asks ≡ None
+  pub twice : twice_among (naming e).row ≡ None
+  pub in_use : in_use_refusal d (naming e).frees ≡ None
+  pub members : members_refusal (naming e).row ≡ None
+  pub full : full_refusal d (naming e).makes ≡ None
 
 none_first : (o : Option Refusal) (os : List (Option Refusal)) → first_of (o ∷ os) ≡ None → (o ≡ None) × (first_of os ≡ None)
 none_first None os is = (refl, is)
@@ -48,13 +58,14 @@ pub accepted : (d : Diagram) (e : Edit) → refusal_of d e ≡ None → IsAccept
 unfolding refusal_of
 accepted d e none =
     let range = none_first (range_refusal e) _ none in
-    let unknown = none_first (unknown_refusal d e) _ range.1 in
-    let taken = none_first (taken_refusal d e) _ unknown.1 in
-    let kind = none_first (kind_refusal d e) _ taken.1 in
-    let twice = none_first (twice_refusal d e) _ kind.1 in
-    let in_use = none_first (in_use_refusal d e) _ twice.1 in
-    let limit = none_first (limit_refusal d e) _ in_use.1 in
-    record { range = range.0; unknown = unknown.0; taken = taken.0; kind = kind.0; twice = twice.0; in_use = in_use.0; limit = limit.0 }
+    let unknown = none_first (unknown_among d (old_names e)) _ range.1 in
+    let taken = none_first (taken_refusal d (naming e).makes) _ unknown.1 in
+    let kind = none_first (kind_among d (naming e).asks) _ taken.1 in
+    let twice = none_first (twice_among (naming e).row) _ kind.1 in
+    let in_use = none_first (in_use_refusal d (naming e).frees) _ twice.1 in
+    let members = none_first (members_refusal (naming e).row) _ in_use.1 in
+    let full = none_first (full_refusal d (naming e).makes) _ members.1 in
+    record { range = range.0; unknown = unknown.0; taken = taken.0; kind = kind.0; twice = twice.0; in_use = in_use.0; members = members.0; full = full.0 }
 
 nothing : {A B : Type 0} (f : A → B) (o : Option A) → option_map f o ≡ None → o ≡ None
 nothing f None is = refl
@@ -72,17 +83,75 @@ none_passes {A} p (x ∷ xs) none = by (p x) refl none (none_passes p xs)
     by true is none rest = cc
     by false is none rest = (is, rest none)
 
+-- ---- what an edit says of the item that it makes
+
+-- what an item uses, in the order of its line
+abbrev pub uses_of : Thing → List Use
+uses_of (thing.Shape s) = []
+uses_of (thing.Guide g) = []
+uses_of (thing.Link l) = link_uses l
+uses_of (thing.Compound c) = rule_uses c.rule
+uses_of (thing.Group g) = group_uses g
+uses_of (thing.Page p) = []
+
+-- the names of an item that must differ
+abbrev pub row_of : Thing → List NameOf
+row_of (thing.Shape s) = []
+row_of (thing.Guide g) = []
+row_of (thing.Link l) = l.a ∷ l.b ∷ []
+row_of (thing.Compound c) = rule_row c.rule
+row_of (thing.Group g) = g.members
+row_of (thing.Page p) = []
+
+abbrev kind_of : Wanted → Kind
+kind_of wanted.Shape = kind.Shape
+kind_of wanted.Guide = kind.Guide
+kind_of (wanted.Placed axis) = kind.Placed axis
+
+-- what must stand for an item to use it
+abbrev asks_for : List Use → List Ask
+asks_for us = map (λ (u : Use). record { kind = kind_of u.wanted; name = u.name }) us
+
+asks_each : (w : Wanted) (names : List NameOf) → each_as (kind_of w) names ≡ asks_for (each w names)
+asks_each w [] = refl
+asks_each w (n ∷ ns) = ap (λ asks. record { kind = kind_of w; name = n } ∷ asks) (asks_each w ns)
+
+-- the edit says the name and sort of the item, what it uses, and which names must differ
+pub record IsSaid (e : Edit) (t : Thing) : Type 0 where
+  pub makes : (naming e).makes ≡ Some (record { name = name_of_thing t; sort = sort_of t })
+  pub asks : (naming e).asks ≡ asks_for (uses_of t)
+  pub row : (naming e).row ≡ row_of t
+
+pub said : (d : Diagram) (e : Edit) (t : Thing) → made d e ≡ Some t → IsSaid e t
+said d e t is = subst (λ o. IfSome o (IsSaid e)) is (by e)
+  where
+    by : (e : Edit) → IfSome (made d e) (IsSaid e)
+    by (edit.Put name form x y w h) = record { makes = refl; asks = refl; row = refl }
+    by (edit.Guide name axis at) = record { makes = refl; asks = refl; row = refl }
+    by (edit.Join name a b) = record { makes = refl; asks = refl; row = refl }
+    by (edit.Align name guide line members) = record { makes = refl; asks = ap (λ asks. record { kind = kind.Guide; name = guide } ∷ asks) (asks_each wanted.Shape members); row = refl }
+    by (edit.Spread name axis gap members) = record { makes = refl; asks = asks_each (wanted.Placed axis) members; row = refl }
+    by (edit.Rank name axis gap members) = record { makes = refl; asks = asks_each (wanted.Placed axis) members; row = refl }
+    by (edit.Apart name axis a b gap exact) = record { makes = refl; asks = refl; row = refl }
+    by (edit.Group name pad members) = record { makes = refl; asks = asks_each wanted.Shape members; row = refl }
+    by (edit.Page name x y w h margin rigid) = record { makes = refl; asks = refl; row = refl }
+    by (edit.Size name w h) = tt
+    by (edit.Move name x y) = tt
+    by (edit.Shift name at) = tt
+    by (edit.Hold name) = tt
+    by (edit.Free name) = tt
+    by (edit.Remove name) = tt
+    by (edit.Unlink name) = tt
+    by (edit.Drop name) = tt
+
 -- ---- a new item
 
-pub made_free : (d : Diagram) (e : Edit) (t : Thing) → made d e ≡ Some t → taken_refusal d e ≡ None → stands d (name_of_thing t) ≡ false
-made_free d e t is none =
-    not_true (stands d (name_of_thing t)) (refusal.Taken (name_of_thing t))
-    (sym (ap (λ o. option_map_or (λ (u : Thing). cond (stands d (name_of_thing u)) (Some (refusal.Taken (name_of_thing u))) None) o None) is) ∙ none)
+pub made_free : (d : Diagram) (e : Edit) (t : Thing) → made d e ≡ Some t → taken_refusal d (naming e).makes ≡ None → stands d (name_of_thing t) ≡ false
+made_free d e t is none = not_true (stands d (name_of_thing t)) (refusal.Taken (name_of_thing t)) (sym (ap (taken_refusal d) (said d e t is).makes) ∙ none)
 
-pub made_room : (d : Diagram) (e : Edit) (t : Thing) → made d e ≡ Some t → limit_refusal d e ≡ None → HasRoomFor d t
+pub made_room : (d : Diagram) (e : Edit) (t : Thing) → made d e ≡ Some t → full_refusal d (naming e).makes ≡ None → HasRoomFor d t
 made_room d e t is none =
-    let last = none_first (option_map_or (λ u. count_refusal d (sort_of u)) (made d e) None) [] ((none_first (members_refusal d e) _ none).1) in
-    let count : count_refusal d (sort_of t) ≡ None = sym (ap (λ o. option_map_or (λ u. count_refusal d (sort_of u)) o None) is) ∙ last.0 in
+    let count : count_refusal d (sort_of t) ≡ None = sym (ap (full_refusal d) (said d e t is).makes) ∙ none in
     leb-false (most_of (sort_of t)) (count_of d (sort_of t)) (not_true (nat_le (most_of (sort_of t)) (count_of d (sort_of t))) _ count)
 
 any-push : {A : Type 0} (p : A → Bool) (xs : List A) (x : A) → list_any p (xs ++ x ∷ []) ≡ false → (list_any p xs ≡ false) × (p x ≡ false)
@@ -116,37 +185,56 @@ differ seen (n ∷ ns) none = by (list_any (same_name n) seen) refl none (differ
     by true is none rest = cc
     by false is none rest = let tail = rest none in let two = others ns tail.0 in ((is, two.0), (two.1, tail.1))
 
+-- a name that finds an item of a kind finds one of its sorts
+pub sort_found : (d : Diagram) (k : Kind) (n : NameOf) → has_sort_of d k n ≡ true → (s : Sort) × (sort_named d n ≡ Some s) × (is_sort_of k s ≡ true)
+sort_found d k n is = by (sort_named d n) refl is
+  where
+    by : (o : Option Sort) → sort_named d n ≡ o → option_map_or (is_sort_of k) o false ≡ true → (s : Sort) × (sort_named d n ≡ Some s) × (is_sort_of k s ≡ true)
+    by None at is = cc
+    by (Some s) at is = (s, at, is)
+
+pub only_shape : (s : Sort) → is_sort_of kind.Shape s ≡ true → s ≡ sort.Shape
+only_shape sort.Shape is = refl
+only_shape sort.Guide is = cc
+only_shape sort.Link is = cc
+only_shape sort.Compound is = cc
+only_shape sort.Group is = cc
+only_shape sort.Page is = cc
+
+pub only_guide : (s : Sort) → is_sort_of kind.Guide s ≡ true → s ≡ sort.Guide
+only_guide sort.Shape is = cc
+only_guide sort.Guide is = refl
+only_guide sort.Link is = cc
+only_guide sort.Compound is = cc
+only_guide sort.Group is = cc
+only_guide sort.Page is = cc
+
+-- what stands as the kind that a use asks for stands as it wants
+stands_as_asked : (d : Diagram) (w : Wanted) (n : NameOf) → is_of_kind d (kind_of w) n ≡ true → stands_as d.shapes d.guides w n ≡ true
+stands_as_asked d wanted.Shape n is = let x = sort_found d kind.Shape n is in sort_stands d n sort.Shape (x.1 ∙ ap Some (only_shape x.0 x.2))
+stands_as_asked d wanted.Guide n is = let x = sort_found d kind.Guide n is in sort_stands d n sort.Guide (x.1 ∙ ap Some (only_guide x.0 x.2))
+stands_as_asked d (wanted.Placed axis) n is = is
+
 -- what a new item uses stands as it wants, and its names differ
 pub made_user : (d : Diagram) (e : Edit) (t : Thing) → made d e ≡ Some t → IsAccepted d e → IsUser d.shapes d.guides (uses_of t) (row_of t)
 made_user d e t is ok =
-    let uses_are : uses d e ≡ uses_of t = ap (λ o. option_map_or uses_of o []) is in
-    let row_is : row d e ≡ row_of t = ap (λ o. option_map_or row_of o []) is in
-    let kinds = none_first (kind_among d (uses d e)) [] ((none_first (changed_kind d e (old_name e)) _ ok.kind).1) in
-    let all = none_passes (λ (u : Use). not (stands_as d.shapes d.guides u.wanted u.name)) (uses d e) (nothing (λ (u : Use). refusal.Kind u.name) _ kinds.0) in
-    let members = (none_first (members_refusal d e) _ ok.limit).0 in
+    let says = said d e t is in
+    let all = none_passes (λ (ask : Ask). not (is_of_kind d ask.kind ask.name)) (asks_for (uses_of t)) (nothing (λ (ask : Ask). refusal.Kind ask.name) _ (sym (ap (kind_among d) says.asks) ∙ ok.kind)) in
     record {
-      stand = subst (λ us. AllByRecursion (λ (u : Use). stands_as d.shapes d.guides u.wanted u.name ≡ true) us) uses_are (stand (uses d e) all);
-      differ = subst (IsDistinct same_name) row_is (differ [] (row d e) (nothing refusal.Twice _ ok.twice)).1;
-      few = subst (λ ns. length ns ≤ most_members) row_is (ltb-false most_members (length (row d e)) (not_true (nat_lt most_members (length (row d e))) _ members));
+      stand = stand (uses_of t) all;
+      differ = (differ [] (row_of t) (nothing refusal.Twice _ (sym (ap twice_among says.row) ∙ ok.twice))).1;
+      few = ltb-false most_members (length (row_of t)) (not_true (nat_lt most_members (length (row_of t))) _ (sym (ap members_refusal says.row) ∙ ok.members));
     }
   where
     is_true : (b : Bool) → not b ≡ false → b ≡ true
     is_true true h = refl
     is_true false h = cc
 
-    stand : (us : List Use) → AllByRecursion (λ (u : Use). not (stands_as d.shapes d.guides u.wanted u.name) ≡ false) us → AllByRecursion (λ (u : Use). stands_as d.shapes d.guides u.wanted u.name ≡ true) us
+    stand : (us : List Use) → AllByRecursion (λ (ask : Ask). not (is_of_kind d ask.kind ask.name) ≡ false) (asks_for us) → AllByRecursion (λ (u : Use). stands_as d.shapes d.guides u.wanted u.name ≡ true) us
     stand [] all = tt
-    stand (u ∷ us) all = (is_true _ all.0, stand us all.1)
+    stand (u ∷ us) all = (stands_as_asked d u.wanted u.name (is_true _ all.0), stand us all.1)
 
 -- ---- numbers in their ranges
-
-in_range : (r : Ranged) → is_outside r ≡ false → (r.least ≤ℤ r.value) × (r.value ≤ℤ r.most)
-in_range r inside = by (int_lt r.value r.least) (int_lt r.most r.value) refl refl inside
-  where
-    by : (a b : Bool) → int_lt r.value r.least ≡ a → int_lt r.most r.value ≡ b → (a || b) ≡ false → (r.least ≤ℤ r.value) × (r.value ≤ℤ r.most)
-    by true b low high inside = cc
-    by false true low high inside = cc
-    by false false low high inside = (omega (arith, ints, low), omega (arith, ints, high))
 
 inside : (e : Edit) → range_refusal e ≡ None → AllByRecursion (λ r. is_outside r ≡ false) (numbers e)
 inside e none = none_passes is_outside (numbers e) (nothing (λ (r : Ranged). refusal.Range r.value) _ none)
@@ -197,19 +285,22 @@ made_sound d e t is ok sound = subst (λ o. IfSome o (IsThing d)) is (by e (insi
 
 -- ---- the item that an edit changes
 
--- it stands, as a sort that the edit may change
-subject : (d : Diagram) (e : Edit) (n : NameOf) → old_name e ≡ Some n → IsAccepted d e → (s : Sort) × (sort_named d n ≡ Some s) × (may_change e s ≡ true)
-subject d e n is ok =
-    let kind = (none_first (changed_kind d e (old_name e)) _ ok.kind).0 in
-    by (sort_named d n) refl (sym (ap (changed_kind d e) is) ∙ kind)
+-- the one name that an edit asks for stands as its kind
+asked : (d : Diagram) (e : Edit) (k : Kind) (n : NameOf) → (naming e).asks ≡ each_as k (n ∷ []) → IsAccepted d e → is_of_kind d k n ≡ true
+asked d e k n asks ok = by (is_of_kind d k n) refl (sym (ap (kind_among d) asks) ∙ ok.kind)
   where
-    by : (o : Option Sort) → sort_named d n ≡ o → cond (option_map_or (may_change e) o false) None (Some (refusal.Kind n)) ≡ None → (s : Sort) × (sort_named d n ≡ Some s) × (may_change e s ≡ true)
-    by None at none = cc
-    by (Some s) at none = (s, at, may (may_change e s) none)
-      where
-        may : (b : Bool) → cond b None (Some (refusal.Kind n)) ≡ None → b ≡ true
-        may true is = refl
-        may false is = cc
+    by : (b : Bool) → is_of_kind d k n ≡ b → kind_among d (each_as k (n ∷ [])) ≡ None → is_of_kind d k n ≡ true
+    by true is none = is
+    by false is none =
+        let found : kind_among d (each_as k (n ∷ [])) ≡ Some (refusal.Kind n) = ap (λ b. option_map (λ (ask : Ask). refusal.Kind ask.name) (cond (not b) (Some (record { kind = k; name = n })) None)) is in
+        cc (found, none)
+
+-- a shape that an edit changes stands, and so does a guideline
+pub shape_stands : (d : Diagram) (e : Edit) (n : NameOf) → (naming e).asks ≡ each_as kind.Shape (n ∷ []) → IsAccepted d e → sort_named d n ≡ Some sort.Shape
+shape_stands d e n asks ok = let x = sort_found d kind.Shape n (asked d e kind.Shape n asks ok) in x.1 ∙ ap Some (only_shape x.0 x.2)
+
+pub guide_stands : (d : Diagram) (e : Edit) (n : NameOf) → (naming e).asks ≡ each_as kind.Guide (n ∷ []) → IsAccepted d e → sort_named d n ≡ Some sort.Guide
+guide_stands d e n asks ok = let x = sort_found d kind.Guide n (asked d e kind.Guide n asks ok) in x.1 ∙ ap Some (only_guide x.0 x.2)
 
 -- an item that stands as a sort, whole
 pub whole : (d : Diagram) (n : NameOf) (s : Sort) → sort_named d n ≡ Some s → (t : Thing) × (thing_named d n ≡ Some t) × (s ≡ sort_of t)
@@ -231,23 +322,23 @@ sort_is_standing d n s at = sym (is_some-in d n all_sorts) ∙ by (item_named d 
     by (Some item) e = refl
 
 -- an item that an edit takes away is free to go
-taken_away : (d : Diagram) (e : Edit) (n : NameOf) → old_name e ≡ Some n → ((t : Thing) → name_of_thing t ≡ n → may_change e (sort_of t) ≡ true → IsFree d t) → IsAccepted d e → IsSound d
+taken_away : (d : Diagram) (k : Kind) (n : NameOf) → has_sort_of d k n ≡ true → ((t : Thing) → name_of_thing t ≡ n → is_sort_of k (sort_of t) ≡ true → IsFree d t) → IsSound d
     → (stands d n ≡ true) × IsSound (without d n)
-taken_away d e n is free ok sound =
-    let x = subject d e n is ok in
+taken_away d k n is free sound =
+    let x = sort_found d k n is in
     let t = whole d n x.0 x.1 in
     let found = thing_found_is d n t.0 t.1 in
-    (sort_is_standing d n x.0 x.1, IsSound-without d n t.0 sound t.1 (free t.0 found.named (ap (may_change e) (sym t.2) ∙ x.2)))
+    (sort_is_standing d n x.0 x.1, IsSound-without d n t.0 sound t.1 (free t.0 found.named (ap (is_sort_of k) (sym t.2) ∙ x.2)))
 
 pub remove_fits : (d : Diagram) (n : NameOf) → IsAccepted d (edit.Remove n) → IsSound d → (stands d n ≡ true) × IsSound (without d n)
 remove_fits d n ok sound =
     let none = unused d n (nothing refusal.InUse (user_of d n) ok.in_use) in
-    taken_away d (edit.Remove n) n refl (λ t named may. IsFree-unused d t (subst (IsUnused d) (sym named) none)) ok sound
+    taken_away d kind.ShapeOrGuide n (asked d (edit.Remove n) kind.ShapeOrGuide n refl ok) (λ t named may. IsFree-unused d t (subst (IsUnused d) (sym named) none)) sound
 
 pub unlink_fits : (d : Diagram) (n : NameOf) → IsAccepted d (edit.Unlink n) → IsSound d → (stands d n ≡ true) × IsSound (without d n)
-unlink_fits d n ok sound = taken_away d (edit.Unlink n) n refl free ok sound
+unlink_fits d n ok sound = taken_away d kind.Link n (asked d (edit.Unlink n) kind.Link n refl ok) free sound
   where
-    free : (t : Thing) → name_of_thing t ≡ n → may_change (edit.Unlink n) (sort_of t) ≡ true → IsFree d t
+    free : (t : Thing) → name_of_thing t ≡ n → is_sort_of kind.Link (sort_of t) ≡ true → IsFree d t
     free (thing.Shape s) named may = cc
     free (thing.Guide g) named may = cc
     free (thing.Link l) named may = tt
@@ -256,9 +347,9 @@ unlink_fits d n ok sound = taken_away d (edit.Unlink n) n refl free ok sound
     free (thing.Page p) named may = tt
 
 pub drop_fits : (d : Diagram) (n : NameOf) → IsAccepted d (edit.Drop n) → IsSound d → (stands d n ≡ true) × IsSound (without d n)
-drop_fits d n ok sound = taken_away d (edit.Drop n) n refl free ok sound
+drop_fits d n ok sound = taken_away d kind.Constraint n (asked d (edit.Drop n) kind.Constraint n refl ok) free sound
   where
-    free : (t : Thing) → name_of_thing t ≡ n → may_change (edit.Drop n) (sort_of t) ≡ true → IsFree d t
+    free : (t : Thing) → name_of_thing t ≡ n → is_sort_of kind.Constraint (sort_of t) ≡ true → IsFree d t
     free (thing.Shape s) named may = cc
     free (thing.Guide g) named may = cc
     free (thing.Link l) named may = tt

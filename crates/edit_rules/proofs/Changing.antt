@@ -1,6 +1,6 @@
 -- What an edit changes: how often items were moved.
-use Rattle.std.proofs.Common.{◌≡◌, ◌+◌, ◌≤◌, ℕ, zero, suc, List, [], ◌∷◌, ◌++◌, Option, Some, None, length, refl, subst, arith, slice_get}
-use Rattle.std.specs.Prelude.{fold}
+use Rattle.std.proofs.Common.{◌≡◌, ◌+◌, ◌<◌, ◌≤◌, ℕ, zero, suc, List, [], ◌∷◌, ◌++◌, Option, Some, None, length, refl, subst, arith, slice_get}
+use Rattle.std.specs.Prelude.{fold, IfSome}
 use Rattle.std.specs.Option.{option_map_or}
 use Rattle.std.specs.List.{AllByRecursion}
 use Rattle.scene_model.specs.declared.items.Item.{Item}
@@ -18,6 +18,7 @@ use Rattle.scene_model.proofs.Places.{found_as, thing_found_is}
 use Rattle.edit_rules.specs.declared.edits.Edit.{Edit}
 use Rattle.edit_rules.specs.declared.edits.Edit.TheVariants as edit
 use Rattle.edit_rules.specs.Effects.{with_found_shape, with_found_guide, edited, HasFewMoves}
+use Rattle.edit_rules.specs.Moves.{moves_of, CanMove, HasMovesLeft}
 
 -- what holds of each element, at a place
 all_at : {A : Type 0} (P : A → Type 0) (xs : List A) (k : ℕ) (x : A) → AllByRecursion P xs → slice_get xs k ≡ Some x → P x
@@ -43,6 +44,46 @@ pub guide_moves : (n : ℕ) (d : Diagram) (name : NameOf) (g : Guide) → HasFew
 guide_moves n d name g few found =
     let x = thing_found_is d name (thing.Guide g) found in
     all_at (λ (y : Guide). y.moves ≤ n) d.guides x.at g few.guides (found_as thing.Guide (λ a b e. cc) (slice_get d.guides x.at) g x.there)
+
+-- ---- items that can be moved once more
+
+pub shape_can_move : (d : Diagram) (n : NameOf) (s : Shape) → thing_named d n ≡ Some (thing.Shape s) → CanMove d n → s.moves < 4294967295
+shape_can_move d n s found can = subst (λ o. IfSome o (λ t. moves_of t < 4294967295)) found can
+
+pub guide_can_move : (d : Diagram) (n : NameOf) (g : Guide) → thing_named d n ≡ Some (thing.Guide g) → CanMove d n → g.moves < 4294967295
+guide_can_move d n g found can = subst (λ o. IfSome o (λ t. moves_of t < 4294967295)) found can
+
+can_move : (d : Diagram) (n : NameOf) → HasFewMoves 4294967294 d → CanMove d n
+can_move d n few = by (thing_named d n) refl
+  where
+    by : (o : Option Thing) → thing_named d n ≡ o → IfSome o (λ t. moves_of t < 4294967295)
+    by None is = tt
+    by (Some (thing.Shape s)) is = let le = shape_moves 4294967294 d n s few is in omega (arith, le)
+    by (Some (thing.Guide g)) is = let le = guide_moves 4294967294 d n g few is in omega (arith, le)
+    by (Some (thing.Link l)) is = omega arith
+    by (Some (thing.Compound c)) is = omega arith
+    by (Some (thing.Group g)) is = omega arith
+    by (Some (thing.Page p)) is = omega arith
+
+-- where no item was moved more often, the item that an edit names can be moved once more
+pub HasFewMoves-left : (d : Diagram) (e : Edit) → HasFewMoves 4294967294 d → HasMovesLeft d e
+HasFewMoves-left d (edit.Move name x y) few = can_move d name few
+HasFewMoves-left d (edit.Shift name at) few = can_move d name few
+HasFewMoves-left d (edit.Put name form x y w h) few = tt
+HasFewMoves-left d (edit.Size name w h) few = tt
+HasFewMoves-left d (edit.Hold name) few = tt
+HasFewMoves-left d (edit.Free name) few = tt
+HasFewMoves-left d (edit.Remove name) few = tt
+HasFewMoves-left d (edit.Join name a b) few = tt
+HasFewMoves-left d (edit.Unlink name) few = tt
+HasFewMoves-left d (edit.Guide name axis at) few = tt
+HasFewMoves-left d (edit.Align name guide line members) few = tt
+HasFewMoves-left d (edit.Spread name axis gap members) few = tt
+HasFewMoves-left d (edit.Rank name axis gap members) few = tt
+HasFewMoves-left d (edit.Apart name axis a b gap exact) few = tt
+HasFewMoves-left d (edit.Group name pad members) few = tt
+HasFewMoves-left d (edit.Page name x y w h margin rigid) few = tt
+HasFewMoves-left d (edit.Drop name) few = tt
 
 -- ---- an edit moves an item at most once more
 

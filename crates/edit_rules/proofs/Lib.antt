@@ -1,4 +1,7 @@
 pub mod Accepting
 pub mod Changing
-pub mod Corners
+pub mod Edges
+pub mod Firsts
+pub mod Judging
 pub mod ListedNames
+pub mod Repeating

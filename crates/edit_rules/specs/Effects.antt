@@ -103,7 +103,15 @@ changed (edit.Free name) d = with_shape d name (λ s. record s { held = false })
 changed (edit.Remove name) d = without d name
 changed (edit.Unlink name) d = without d name
 changed (edit.Drop name) d = without d name
-changed _ d = d
+changed (edit.Put name form x y w h) d = d
+changed (edit.Join name a b) d = d
+changed (edit.Guide name axis at) d = d
+changed (edit.Align name guide line members) d = d
+changed (edit.Spread name axis gap members) d = d
+changed (edit.Rank name axis gap members) d = d
+changed (edit.Apart name axis a b gap exact) d = d
+changed (edit.Group name pad members) d = d
+changed (edit.Page name x y w h margin rigid) d = d
 
 -- the diagram after an edit: the item that it makes is the last of its sort
 unfoldable pub edited : Edit → Diagram → Diagram

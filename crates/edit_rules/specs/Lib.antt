@@ -1,3 +1,8 @@
+pub mod Causes
+pub mod Corners
 pub mod Effects
+pub mod Firsts
+pub mod Moves
+pub mod Naming
 pub mod Ranges
 pub mod Refusals

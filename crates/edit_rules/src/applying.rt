@@ -1,59 +1,26 @@
 //! The edited scene.
-ghost use Rattle.std.specs.Int.{int_min, int_max};
-ghost use Rattle.std.specs.List.{AllByRecursion, list_any};
-ghost use Rattle.scene_model.specs.Names.{same_name};
-ghost use Rattle.std.specs.Option.{option_map_or};
-ghost use Rattle.std.specs.Prelude.{◌≡◌, ◌↔◌, ◌≤◌, ◌+◌, ℕ, IsTrue, true, None, Some, MatchResult, MatchOption, OnOk, OnErr, map, nat_abs, IfSome, if◌then◌else◌};
+ghost use Rattle.std.specs.Prelude.{◌≡◌, ◌+◌, ◌<◌, true, None, Some, MatchResult, OnOk, OnErr};
 ghost use Rattle.scene_model.specs.declared.items.Sort.TheVariants as sorts;
 ghost use Rattle.scene_model.specs.declared.items.Thing.TheVariants.{Shape as ThingShape, Guide as ThingGuide};
 ghost use Rattle.scene_model.specs.declared.items.Shape.{Shape as ShapeValue};
 ghost use Rattle.scene_model.specs.declared.items.Guide.{Guide as GuideValue};
 ghost use Rattle.scene_model.specs.Sound.{IsCoordinate, IsExtent, IsShape, IsSound};
 ghost use Rattle.scene_model.specs.Items.{stands, sort_named, thing_named, with_thing, with_replaced, without, IsThing, HasRoomFor, name_of_thing};
-ghost use Rattle.scene_model.specs.Variables.{low, high};
-ghost use Rattle.edit_rules.specs.Effects.{least, greatest, member_shapes, low_corner, high_corner, group_around, made, changed, with_shape, with_guide, edited, HasFewMoves};
+ghost use Rattle.edit_rules.specs.Effects.{made, changed, with_shape, with_guide, edited};
+ghost use Rattle.edit_rules.specs.Moves.{CanMove, HasMovesLeft};
 ghost use Rattle.edit_rules.specs.Refusals.{refusal_of};
 
+use crate::corners::group_around;
 use crate::edits::Edit;
-use scene_model::{Compound, Group, Guide, Link, Page, Rule, Scene, Shape, Sort, Thing};
-use std::cmp::{max, min};
-use units::{Axis, Members, Memory, Name, Pt};
+use scene_model::{Compound, Guide, Link, Page, Rule, Scene, Shape, Sort, Thing};
+use units::{Memory, Name};
 
-/// Whether no shape or guideline of the scene was moved 2^32 - 1 times. After fewer edits than that it is so.
-pub fn has_moves_left(scene: &Scene) -> bool
-    ensures { IsTrue result ↔ HasFewMoves 4294967294 scene.now }
-{
-    shapes_have_moves_left(scene) && guides_have_moves_left(scene)
-}
-
-fn shapes_have_moves_left(scene: &Scene) -> bool
-    ensures { IsTrue result ↔ AllByRecursion (λ (s : ShapeValue). s.moves ≤ 4294967294) scene.now.shapes }
-{
-    for at in 0..scene.count(Sort::Shape) {
-        if scene.shape(at).moves == u32::MAX {
-            return false;
-        }
-    }
-    true
-}
-
-fn guides_have_moves_left(scene: &Scene) -> bool
-    ensures { IsTrue result ↔ AllByRecursion (λ (g : GuideValue). g.moves ≤ 4294967294) scene.now.guides }
-{
-    for at in 0..scene.count(Sort::Guide) {
-        if scene.guide(at).moves == u32::MAX {
-            return false;
-        }
-    }
-    true
-}
-
-/// Edits the scene, which accepts the edit: `check` tells. No shape or guideline was moved 2^32 - 1 times:
-/// `has_moves_left` tells. After want of memory the scene is as before.
+/// Edits the scene, which accepts the edit: `check` tells. The item that a move or shift names was moved fewer than
+/// 2^32 - 1 times: `has_moves_left` tells. After want of memory the scene is as before.
 #[tactic(auto, unfolding(crate::specs::Effects::edited))]
 pub fn apply(scene: &mut Scene, edit: Edit) -> Result<(), Memory>
     requires accepted { refusal_of scene.old edit ≡ None }
-    requires few { HasFewMoves 4294967294 scene.old }
+    requires few { HasMovesLeft scene.old edit }
     ensures edited { OnOk result (scene.new ≡ edited edit scene.old) }
     ensures unchanged { OnErr result (scene.new ≡ scene.old) }
 {
@@ -165,135 +132,14 @@ fn item_made(scene: &Scene, edit: Edit) -> Result<Thing, Edit>
             margin,
             rigid,
         })),
-        other => Err(other),
-    }
-}
-
-/// The group around these members, as they are declared now.
-fn group_around(scene: &Scene, name: Name, pad: i32, members: Members) -> Group
-    ensures { result ≡ group_around scene.now name pad members }
-{
-    let names = members.list();
-    let low = Pt {
-        x: low_corner(scene, names, pad, Axis::X),
-        y: low_corner(scene, names, pad, Axis::Y),
-    };
-    let high = Pt {
-        x: high_corner(scene, names, pad, Axis::X),
-        y: high_corner(scene, names, pad, Axis::Y),
-    };
-    Group {
-        name,
-        pad,
-        members,
-        low,
-        high,
-    }
-}
-
-fn low_corner(scene: &Scene, members: &[Name], pad: i32, axis: Axis) -> i64
-    ensures { result ≡ low_corner scene.now members.now pad axis }
-{
-    least_low(scene, members, axis).unwrap_or(0) - i64::from(pad)
-}
-
-fn high_corner(scene: &Scene, members: &[Name], pad: i32, axis: Axis) -> i64
-    ensures { result ≡ high_corner scene.now members.now pad axis }
-{
-    greatest_high(scene, members, axis).unwrap_or(0) + i64::from(pad)
-}
-
-/// The least low edge of the members, if one stands.
-fn least_low(scene: &Scene, members: &[Name], axis: Axis) -> Option<i64>
-    ensures value { result ≡ least (map (low axis) (member_shapes scene.now members.now)) }
-    ensures near { IfSome result (λ z. nat_abs z ≤ 1010000) }
-{
-    let mut least = None;
-    for at in 0..scene.count(Sort::Shape) {
-        least = least_with(least, members, scene.shape(at), axis);
-    }
-    least
-}
-
-/// The least low edge so far and that of one more shape, if it is a member.
-fn least_with(least: Option<i64>, members: &[Name], shape: &Shape, axis: Axis) -> Option<i64>
-    requires { IsShape shape.now }
-    ensures { result ≡ (if list_any (same_name shape.now.name) members.now then Some (option_map_or (int_min (low axis shape.now)) least (low axis shape.now)) else least) }
-{
-    if is_member(members, &shape.name) {
-        Some(lesser(least, low(shape, axis)))
-    } else {
-        least
-    }
-}
-
-/// The greatest high edge of the members, if one stands.
-fn greatest_high(scene: &Scene, members: &[Name], axis: Axis) -> Option<i64>
-    ensures value { result ≡ greatest (map (high axis) (member_shapes scene.now members.now)) }
-    ensures near { IfSome result (λ z. nat_abs z ≤ 1010000) }
-{
-    let mut greatest = None;
-    for at in 0..scene.count(Sort::Shape) {
-        greatest = greatest_with(greatest, members, scene.shape(at), axis);
-    }
-    greatest
-}
-
-/// The greatest high edge so far and that of one more shape, if it is a member.
-fn greatest_with(greatest: Option<i64>, members: &[Name], shape: &Shape, axis: Axis) -> Option<i64>
-    requires { IsShape shape.now }
-    ensures { result ≡ (if list_any (same_name shape.now.name) members.now then Some (option_map_or (int_max (high axis shape.now)) greatest (high axis shape.now)) else greatest) }
-{
-    if is_member(members, &shape.name) {
-        Some(greater(greatest, high(shape, axis)))
-    } else {
-        greatest
-    }
-}
-
-fn is_member(members: &[Name], name: &Name) -> bool
-    ensures { result ≡ list_any (same_name name.now) members.now }
-{
-    members.contains(name)
-}
-
-fn lesser(least: Option<i64>, edge: i64) -> i64
-    ensures { result ≡ option_map_or (int_min edge) least edge }
-{
-    match least {
-        Some(other) => min(edge, other),
-        None => edge,
-    }
-}
-
-fn greater(greatest: Option<i64>, edge: i64) -> i64
-    ensures { result ≡ option_map_or (int_max edge) greatest edge }
-{
-    match greatest {
-        Some(other) => max(edge, other),
-        None => edge,
-    }
-}
-
-fn low(shape: &Shape, axis: Axis) -> i64
-    requires { IsShape shape.now }
-    ensures value { result ≡ low axis shape.now }
-    ensures near { nat_abs result ≤ 1000000 }
-{
-    match axis {
-        Axis::X => i64::from(shape.x),
-        Axis::Y => i64::from(shape.y),
-    }
-}
-
-fn high(shape: &Shape, axis: Axis) -> i64
-    requires { IsShape shape.now }
-    ensures value { result ≡ high axis shape.now }
-    ensures near { nat_abs result ≤ 1010000 }
-{
-    match axis {
-        Axis::X => i64::from(shape.x) + i64::from(shape.w),
-        Axis::Y => i64::from(shape.y) + i64::from(shape.h),
+        other @ (Edit::Size { .. }
+        | Edit::Move { .. }
+        | Edit::Shift { .. }
+        | Edit::Hold { .. }
+        | Edit::Free { .. }
+        | Edit::Remove { .. }
+        | Edit::Unlink { .. }
+        | Edit::Drop { .. }) => Err(other),
     }
 }
 
@@ -301,7 +147,7 @@ fn high(shape: &Shape, axis: Axis) -> i64
 #[tactic(auto, unfolding(crate::specs::Refusals::refusal_of))]
 fn change(scene: &mut Scene, edit: &Edit)
     requires accepted { refusal_of scene.old edit.now ≡ None }
-    requires few { HasFewMoves 4294967294 scene.old }
+    requires few { HasMovesLeft scene.old edit.now }
     ensures { scene.new ≡ changed edit.now scene.old }
 {
     // A scene is sound, which `count` tells.
@@ -315,7 +161,15 @@ fn change(scene: &mut Scene, edit: &Edit)
         Edit::Remove { name } => remove(scene, name),
         Edit::Unlink { name } => remove(scene, name),
         Edit::Drop { name } => remove(scene, name),
-        _ => {}
+        Edit::Put { .. }
+        | Edit::Join { .. }
+        | Edit::Guide { .. }
+        | Edit::Align { .. }
+        | Edit::Spread { .. }
+        | Edit::Rank { .. }
+        | Edit::Apart { .. }
+        | Edit::Group { .. }
+        | Edit::Page { .. } => {}
     }
 }
 
@@ -333,7 +187,7 @@ fn resize(scene: &mut Scene, name: &Name, w: i32, h: i32)
 /// Moves the shape of this name, which stands.
 fn move_to(scene: &mut Scene, name: &Name, x: i32, y: i32)
     requires stands { sort_named scene.old name.now ≡ Some sorts.Shape }
-    requires few { HasFewMoves 4294967294 scene.old }
+    requires few { CanMove scene.old name.now }
     requires on_x { IsCoordinate x }
     requires on_y { IsCoordinate y }
     ensures { scene.new ≡ with_shape scene.old name.now (λ (s : ShapeValue). record s { x = x; y = y; moves = s.moves + 1 }) }
@@ -364,7 +218,7 @@ fn standing_shape(scene: &Scene, name: &Name) -> Shape
     requires { sort_named scene.now name.now ≡ Some sorts.Shape }
     ensures value { thing_named scene.now name.now ≡ Some (ThingShape result) }
     ensures named { result.name ≡ name.now }
-    ensures few { (n : ℕ) → HasFewMoves n scene.now → result.moves ≤ n }
+    ensures few { CanMove scene.now name.now → result.moves < 4294967295 }
     ensures sound { IsShape result }
 {
     shape_found(scene, name)
@@ -395,7 +249,7 @@ fn standing_guide(scene: &Scene, name: &Name) -> Guide
     requires { sort_named scene.now name.now ≡ Some sorts.Guide }
     ensures value { thing_named scene.now name.now ≡ Some (ThingGuide result) }
     ensures named { result.name ≡ name.now }
-    ensures few { (n : ℕ) → HasFewMoves n scene.now → result.moves ≤ n }
+    ensures few { CanMove scene.now name.now → result.moves < 4294967295 }
 {
     guide_found(scene, name)
 }
@@ -411,7 +265,7 @@ fn guide_found(scene: &Scene, name: &Name) -> Guide
 /// Shifts the guideline of this name, which stands.
 fn shift(scene: &mut Scene, name: &Name, at: i32)
     requires stands { sort_named scene.old name.now ≡ Some sorts.Guide }
-    requires few { HasFewMoves 4294967294 scene.old }
+    requires few { CanMove scene.old name.now }
     requires near { IsCoordinate at }
     ensures { scene.new ≡ with_guide scene.old name.now (λ (g : GuideValue). record g { at = at; moves = g.moves + 1 }) }
 {

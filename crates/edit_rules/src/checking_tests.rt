@@ -53,6 +53,24 @@ pub fn apart(name: Name, axis: Axis, a: Name, b: Name, gap: i32) -> Edit {
     }
 }
 
+pub fn spread(name: Name, axis: Axis, gap: i32, members: Members) -> Edit {
+    Edit::Spread {
+        name,
+        axis,
+        gap,
+        members,
+    }
+}
+
+pub fn rank(name: Name, axis: Axis, gap: i32, members: Members) -> Edit {
+    Edit::Rank {
+        name,
+        axis,
+        gap,
+        members,
+    }
+}
+
 pub fn group(name: Name, pad: i32, members: Members) -> Edit {
     Edit::Group { name, pad, members }
 }
@@ -74,7 +92,7 @@ fn play(scene: &mut Scene, edit: Edit) -> Result<Option<Refusal>, Memory> {
     if let Err(refusal) = check(scene, &edit) {
         return Ok(Some(refusal));
     }
-    if !has_moves_left(scene) {
+    if !has_moves_left(scene, &edit) {
         return Err(Memory);
     }
     apply(scene, edit)?;
@@ -290,15 +308,10 @@ fn put_rows(scene: &mut Scene, list: &mut Vec<Name>) -> Result<(), Fail> {
 fn tells_limit(scene: &Scene, alloc: Global, list: &[Name], n: &Names) -> Result<bool, Fail> {
     let name = n.free;
     let most = limit(Counted::Members, 64);
-    let rank = Edit::Rank {
-        name,
-        axis: Axis::Y,
-        gap: 0,
-        members: members(alloc, list)?,
-    };
+    let ranked = rank(name, Axis::Y, 0, members(alloc, list)?);
     let grouped = group(name, 0, members(alloc, list)?);
     Ok(
-        refuses(scene, rank, most)
+        refuses(scene, ranked, most)
             && refuses(scene, grouped, limit(Counted::Members, 64))
             && refuses(scene, page(name, 0, 0, 1, 1, 0), limit(Counted::Pages, 1)),
     )

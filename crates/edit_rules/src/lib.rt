@@ -3,13 +3,22 @@
 
 mod applying;
 mod checking;
+mod corners;
 pub mod edits;
+mod limits;
+mod moves;
+mod naming;
 mod ranges;
 pub mod refusals;
+mod repeats;
+mod sorts;
+mod standing;
 
-pub use applying::{apply, has_moves_left};
+pub use applying::apply;
 pub use checking::check;
+pub use corners::corner_law;
 pub use edits::Edit;
+pub use moves::has_moves_left;
 pub use refusals::{Counted, Refusal};
 
 #[cfg(test)]

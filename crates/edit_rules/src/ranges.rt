@@ -1,8 +1,7 @@
 //! The ranges of an edit's numbers.
 ghost use Rattle.std.specs.Prelude.{◌≡◌, ◌∷◌, [], find};
 ghost use Rattle.std.specs.Option.{option_map};
-ghost use Rattle.edit_rules.specs.Ranges.{coordinate, extent, page_extent, border, is_outside};
-ghost use Rattle.edit_rules.specs.Refusals.{numbers};
+ghost use Rattle.edit_rules.specs.Ranges.{coordinate, extent, page_extent, border, is_outside, numbers};
 
 use crate::edits::Edit;
 

@@ -1,25 +1,55 @@
 //! What no clause says: that with ample memory edits are copied and applied.
 use crate::Edit;
 use crate::checking_tests::{
-    accepted, align, apart, expect, group, guide, join, members, name, page, put,
+    accepted, align, apart, expect, group, guide, join, members, name, page, put, rank, spread,
 };
 use scene_model::{Compound, Form, Guide, Link, Page, Rule, Scene, Shape, Sort};
 use std::alloc::Global;
 use std::test::Fail;
 use units::{Axis, Name, Pt};
 
-fn is_copied(edit: &Edit, alloc: Global) -> Result<(), Fail> {
+/// Fails where the copy of the edit isn't equal to it.
+fn copies(edit: Edit, alloc: Global) -> Result<(), Fail> {
     let copy = edit.copy(alloc)?;
-    expect(copy == *edit, "a copy")
+    expect(copy == edit, "a copy")
 }
 
+fn copies_changes(a: Name, alloc: Global) -> Result<(), Fail> {
+    let name = a;
+    copies(Edit::Size { name, w: 7, h: 8 }, alloc)?;
+    copies(Edit::Move { name, x: 5, y: 6 }, alloc)?;
+    copies(Edit::Shift { name, at: -7 }, alloc)?;
+    copies(Edit::Hold { name }, alloc)?;
+    copies(Edit::Free { name }, alloc)?;
+    copies(Edit::Remove { name }, alloc)?;
+    copies(Edit::Unlink { name }, alloc)?;
+    copies(Edit::Drop { name }, alloc)
+}
+
+fn copies_plain_items(a: Name, b: Name, alloc: Global) -> Result<(), Fail> {
+    copies(put(a, 3, -4, 40, 20), alloc)?;
+    copies(guide(a, Axis::Y, 40), alloc)?;
+    copies(join(a, a, b), alloc)?;
+    copies(apart(a, Axis::Y, a, b, -3), alloc)?;
+    copies(page(a, -9, 8, 700, 600, 5), alloc)
+}
+
+fn copies_rows(a: Name, b: Name, alloc: Global) -> Result<(), Fail> {
+    copies(align(a, b, members(alloc, &[a, b])?), alloc)?;
+    copies(spread(a, Axis::X, -3, members(alloc, &[b, a])?), alloc)?;
+    copies(rank(a, Axis::Y, 30, members(alloc, &[a])?), alloc)?;
+    copies(group(a, 15, members(alloc, &[b, a, b])?), alloc)
+}
+
+/// Each of the 17 edits.
 #[test]
 fn edits_are_copied(rt: HostRuntime) -> Result<(), Fail> {
     let alloc = rt.alloc();
     let a = name(b"a")?;
     let b = name(b"b")?;
-    is_copied(&put(a, 3, -4, 40, 20), alloc)?;
-    is_copied(&align(b, a, members(alloc, &[a, b])?), alloc)
+    copies_changes(a, alloc)?;
+    copies_plain_items(a, b, alloc)?;
+    copies_rows(a, b, alloc)
 }
 
 /// Whether this guideline stands alone.

@@ -5,7 +5,7 @@ pub add-requires-clause-free : goal.add-requires-clause-free
 add-requires-clause-free c = let ok = accepted c.args.scene.now c.args.edit c.requires.accepted in made_free c.args.scene.now c.args.edit c.in-Ok.thing c.in-Ok.ensures ok.taken
 
 pub add-requires-clause-room : goal.add-requires-clause-room
-add-requires-clause-room c = let ok = accepted c.args.scene.now c.args.edit c.requires.accepted in made_room c.args.scene.now c.args.edit c.in-Ok.thing c.in-Ok.ensures ok.limit
+add-requires-clause-room c = let ok = accepted c.args.scene.now c.args.edit c.requires.accepted in made_room c.args.scene.now c.args.edit c.in-Ok.thing c.in-Ok.ensures ok.full
 
 pub add-requires-clause-sound : goal.add-requires-clause-sound
 add-requires-clause-sound c =

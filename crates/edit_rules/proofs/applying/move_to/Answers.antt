@@ -3,5 +3,5 @@ use Rattle.edit_rules.proofs.applying.move_to.Goals as goal
 
 pub overflow_add-shape : goal.overflow_add-shape
 overflow_add-shape c =
-    let few = c.standing_shape-shape.ensures.few 4294967294 c.requires.few in
+    let few = c.standing_shape-shape.ensures.few c.requires.few in
     record { fits = omega (arith, few) }

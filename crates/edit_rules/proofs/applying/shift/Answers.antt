@@ -5,7 +5,7 @@ use Rattle.edit_rules.proofs.applying.shift.Goals as goal
 
 pub overflow_add-guide : goal.overflow_add-guide
 overflow_add-guide c =
-    let few = c.standing_guide-guide.ensures.few 4294967294 c.requires.few in
+    let few = c.standing_guide-guide.ensures.few c.requires.few in
     record { fits = omega (arith, few) }
 
 pub set-requires-clause-sound : goal.set-requires-clause-sound

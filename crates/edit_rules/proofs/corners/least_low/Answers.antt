@@ -6,8 +6,8 @@ use Rattle.std.specs.Option.{option_map_or}
 use Rattle.scene_model.specs.declared.items.Shape.{Shape}
 use Rattle.scene_model.specs.Names.{same_name}
 use Rattle.scene_model.specs.Variables.{low}
-use Rattle.edit_rules.proofs.Corners.{next_shape, least-near, all_members}
-use Rattle.edit_rules.proofs.applying.least_low.Goals as goal
+use Rattle.edit_rules.proofs.Edges.{next_shape, least-near, all_members}
+use Rattle.edit_rules.proofs.corners.least_low.Goals as goal
 
 pub loop-at-preserved : goal.loop-at-preserved
 loop-at-preserved c =

@@ -1,7 +1,7 @@
 use Rattle.std.proofs.Common.{refl, sym, ◌∙◌}
 use Rattle.std.proofs.lemmas.Option.{slice_get_read}
-use Rattle.edit_rules.proofs.ListedNames.{twice_here, twice_later}
-use Rattle.edit_rules.proofs.checking.first_twice.Goals as goal
+use Rattle.edit_rules.proofs.Repeating.{twice_here, twice_later}
+use Rattle.edit_rules.proofs.repeats.first_twice.Goals as goal
 
 pub returns-then-is_among : goal.returns-then-is_among
 returns-then-is_among c =

@@ -6,8 +6,8 @@ use Rattle.std.specs.Option.{option_map_or}
 use Rattle.scene_model.specs.declared.items.Shape.{Shape}
 use Rattle.scene_model.specs.Names.{same_name}
 use Rattle.scene_model.specs.Variables.{high}
-use Rattle.edit_rules.proofs.Corners.{next_shape, greatest-near, all_members}
-use Rattle.edit_rules.proofs.applying.greatest_high.Goals as goal
+use Rattle.edit_rules.proofs.Edges.{next_shape, greatest-near, all_members}
+use Rattle.edit_rules.proofs.corners.greatest_high.Goals as goal
 
 pub loop-at-preserved : goal.loop-at-preserved
 loop-at-preserved c =
