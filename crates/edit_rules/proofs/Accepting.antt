@@ -32,8 +32,8 @@ use Rattle.edit_rules.specs.declared.refusals.Refusal.{Refusal}
 use Rattle.edit_rules.specs.declared.refusals.Refusal.TheVariants as refusal
 use Rattle.edit_rules.specs.Ranges.{coordinate, extent, page_extent, border, is_outside, numbers}
 use Rattle.edit_rules.specs.Effects.{made}
-use Rattle.edit_rules.specs.Naming.{naming, is_sort_of, has_sort_of, is_of_kind, each_as, old_names}
-use Rattle.edit_rules.specs.Refusals.{range_refusal, unknown_among, taken_refusal, kind_among, first_of, first_twice, twice_among, in_use_refusal, members_refusal, count_refusal, full_refusal, refusal_of}
+use Rattle.edit_rules.specs.Naming.{Naming, naming, is_sort_of, has_sort_of, is_of_kind, each_as, old_names}
+use Rattle.edit_rules.specs.Refusals.{range_refusal, unknown_among, taken_refusal, kind_among, first_of, first_twice, twice_among, in_use_refusal, members_refusal, count_refusal, full_refusal, separations_refusal, named_refusals, limit_refusals, refusal_of}
 use Rattle.edit_rules.proofs.Edges.{low_corner-near, high_corner-near}
 use Rattle.edit_rules.proofs.Judging.{in_range}
 
@@ -49,6 +49,7 @@ pub record IsAccepted (d : Diagram) (e : Edit) : Type 0 where
   pub in_use : in_use_refusal d (naming e).frees ≡ None
   pub members : members_refusal (naming e).row ≡ None
   pub full : full_refusal d (naming e).makes ≡ None
+  pub separations : separations_refusal d e ≡ None
 
 none_first : (o : Option Refusal) (os : List (Option Refusal)) → first_of (o ∷ os) ≡ None → (o ≡ None) × (first_of os ≡ None)
 none_first None os is = (refl, is)
@@ -65,7 +66,8 @@ accepted d e none =
     let in_use = none_first (in_use_refusal d (naming e).frees) _ twice.1 in
     let members = none_first (members_refusal (naming e).row) _ in_use.1 in
     let full = none_first (full_refusal d (naming e).makes) _ members.1 in
-    record { range = range.0; unknown = unknown.0; taken = taken.0; kind = kind.0; twice = twice.0; in_use = in_use.0; members = members.0; full = full.0 }
+    let separations = none_first (separations_refusal d e) _ full.1 in
+    record { range = range.0; unknown = unknown.0; taken = taken.0; kind = kind.0; twice = twice.0; in_use = in_use.0; members = members.0; full = full.0; separations = separations.0 }
 
 nothing : {A B : Type 0} (f : A → B) (o : Option A) → option_map f o ≡ None → o ≡ None
 nothing f None is = refl
@@ -356,3 +358,19 @@ drop_fits d n ok sound = taken_away d kind.Constraint n (asked d (edit.Drop n) k
     free (thing.Compound c) named may = tt
     free (thing.Group g) named may = tt
     free (thing.Page p) named may = tt
+
+-- ---- parts of the list
+
+-- the new item's name is free
+pub free_named : (d : Diagram) (says : Naming) → first_of (named_refusals d says) ≡ None → taken_refusal d says.makes ≡ None
+free_named d says none =
+    let unknown = none_first (unknown_among d (map (λ (ask : Ask). ask.name) says.asks)) _ none in
+    (none_first (taken_refusal d says.makes) _ unknown.1).0
+
+-- the members are few
+pub few_limited : (d : Diagram) (row : List NameOf) (makes : Option NewItem) → first_of (limit_refusals d row makes) ≡ None → length row ≤ most_members
+few_limited d row makes none = ltb-false most_members (length row) (not_true (nat_lt most_members (length row)) _ (none_first (members_refusal row) _ none).0)
+
+-- a name that is not taken is free
+pub free_name : (d : Diagram) (item : NewItem) → taken_refusal d (Some item) ≡ None → stands d item.name ≡ false
+free_name d item none = not_true (stands d item.name) (refusal.Taken item.name) none

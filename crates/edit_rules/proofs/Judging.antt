@@ -1,15 +1,20 @@
 -- The first refusal as a function is the first cause that holds.
-use Rattle.std.proofs.Common.{◌≡◌, ◌<◌, ◌≤◌, ℕ, zero, suc, List, [], ◌∷◌, Bool, true, false, cond, Option, Some, None, length, refl, ap, sym, ◌∙◌, subst, arith, get_or}
+use Rattle.std.proofs.Common.{◌≡◌, ◌<◌, ◌≤◌, ℕ, zero, suc, ◌⊎◌, inl, inr, List, [], ◌∷◌, ◌++◌, Bool, true, false, cond, Option, Some, None, length, refl, ap, sym, ◌∙◌, subst, arith, get_or}
 use Rattle.std.specs.Prelude.{find, not, nat_lt, nat_le, int_lt, ◌||◌, Result, Ok, Err, IsOk, MatchResult, ◌↔◌}
 use Rattle.std.specs.Option.{option_map, option_map_or}
 use Rattle.std.proofs.lemmas.Int.{ints}
 use Rattle.std.proofs.lemmas.Bool.{ltb-true, ltb-false, leb-true, lt-ltb, le-leb}
+use Rattle.units.specs.declared.geometry.Axis.{Axis}
+use Rattle.units.specs.declared.geometry.Axis.TheVariants.{X, Y}
 use Rattle.scene_model.specs.declared.items.Sort.{Sort}
 use Rattle.scene_model.specs.declared.items.Sort.TheVariants as sort
+use Rattle.scene_model.specs.declared.items.Thing.{Thing}
 use Rattle.scene_model.specs.Names.{NameOf}
 use Rattle.scene_model.specs.Diagram.{Diagram, most_of}
 use Rattle.scene_model.specs.Uses.{User, users, is_used_in, most_members, user_of}
-use Rattle.scene_model.specs.Items.{stands, count_of}
+use Rattle.scene_model.specs.Items.{stands, count_of, with_thing}
+use Rattle.scene_model.specs.Separations.{separations}
+use Rattle.sep_gen.specs.Counted.{count_with}
 use Rattle.edit_rules.specs.declared.edits.Edit.{Edit}
 use Rattle.edit_rules.specs.declared.naming.Ask.{Ask}
 use Rattle.edit_rules.specs.declared.naming.NewItem.{NewItem}
@@ -18,10 +23,11 @@ use Rattle.edit_rules.specs.declared.refusals.Counted.{Counted}
 use Rattle.edit_rules.specs.declared.refusals.Counted.TheVariants as counted
 use Rattle.edit_rules.specs.declared.refusals.Refusal.{Refusal}
 use Rattle.edit_rules.specs.declared.refusals.Refusal.TheVariants as refusal
-use Rattle.edit_rules.specs.Causes.{Holds, rank, limit_rank, IsFull, IsRefused, Accepts}
+use Rattle.edit_rules.specs.Causes.{Holds, rank, limit_rank, IsFull, IsCrowded, IsRefused, Accepts}
+use Rattle.edit_rules.specs.Effects.{made, changed, edited}
 use Rattle.edit_rules.specs.Naming.{naming, is_of_kind, old_names}
 use Rattle.edit_rules.specs.Ranges.{IsWithin, numbers, is_outside}
-use Rattle.edit_rules.specs.Refusals.{range_refusal, unknown_among, taken_refusal, kind_among, twice_among, in_use_refusal, counted_as, members_refusal, count_refusal, full_refusal, first_of, first_twice, refusals, refusal_of}
+use Rattle.edit_rules.specs.Refusals.{range_refusal, unknown_among, taken_refusal, kind_among, twice_among, in_use_refusal, counted_as, members_refusal, count_refusal, full_refusal, most_separations, is_crowded, separations_refusal, first_of, first_twice, named_refusals, limit_refusals, refusals, refusal_of}
 use Rattle.edit_rules.proofs.Firsts.{find-first, first-find}
 use Rattle.edit_rules.proofs.Repeating.{twice-repeat, repeat-twice}
 
@@ -63,6 +69,44 @@ out_of_range r outside within = by (int_lt r.value r.least) (int_lt r.most r.val
     by true b low high outside = omega (arith, ints, low, within.0)
     by false true low high outside = omega (arith, ints, high, within.1)
     by false false low high outside = cc
+
+-- ---- an item more
+
+-- the diagram after an edit that makes an item has that item more
+pub edited_made : (d : Diagram) (e : Edit) (t : Thing) → made d e ≡ Some t → edited e d ≡ with_thing d t
+unfolding edited
+edited_made d e t is = ap (λ o. option_map_or (with_thing d) o (changed e d)) is
+
+-- more separations, where the edit makes the item
+crowded : (d : Diagram) (e : Edit) (axis : Axis) → is_crowded d e axis ≡ true → IsCrowded d e most_separations
+crowded d e axis is = by (made d e) refl is
+  where
+    by : (o : Option Thing) → made d e ≡ o → option_map_or (λ t. nat_lt most_separations (count_with d axis t)) o false ≡ true → IsCrowded d e most_separations
+    by None makes is = cc
+    by (Some t) makes is = record {
+      thing = t;
+      makes = makes;
+      axis = axis;
+      more = subst (λ c. most_separations < length (separations c axis)) (sym (edited_made d e t makes)) (ltb-true _ _ is);
+      most = refl;
+    }
+
+crowded_is : (d : Diagram) (e : Edit) (count : ℕ) (at : IsCrowded d e count) → is_crowded d e at.axis ≡ true
+crowded_is d e count at =
+    ap (λ o. option_map_or (λ t. nat_lt most_separations (count_with d at.axis t)) o false) at.makes
+    ∙ lt-ltb most_separations (count_with d at.axis at.thing) (subst (λ c. most_separations < length (separations c at.axis)) (edited_made d e at.thing at.makes) at.more)
+
+one_axis : (a b : Bool) → (a || b) ≡ true → (a ≡ true) ⊎ (b ≡ true)
+one_axis true b is = inl refl
+one_axis false b is = inr is
+
+either_axis : (f : Axis → Bool) (axis : Axis) → f axis ≡ true → (f X || f Y) ≡ true
+either_axis f X is = ap (λ b. b || f Y) is
+either_axis f Y is = by (f X)
+  where
+    by : (b : Bool) → (b || f Y) ≡ true
+    by true = refl
+    by false = is
 
 -- ---- each refusal that is there says what it says
 
@@ -143,6 +187,15 @@ module _ (d : Diagram) (e : Edit) where
           let x = some_if (nat_le (most_of item.sort) (count_of d item.sort)) (refusal.Limit (counted_as item.sort) (most_of item.sort)) r is in
           subst (Ranks 7) x.1 (at_sort item item.sort makes refl (leb-true _ _ x.0))
 
+  many_separations : (r : Refusal) → separations_refusal d e ≡ Some r → Ranks 8 r
+  many_separations r is =
+      let x = some_if (is_crowded d e X || is_crowded d e Y) (refusal.Limit counted.Seps most_separations) r is in
+      subst (Ranks 8) x.1 (by (one_axis (is_crowded d e X) (is_crowded d e Y) x.0), refl)
+    where
+      by : (is_crowded d e X ≡ true) ⊎ (is_crowded d e Y ≡ true) → IsCrowded d e most_separations
+      by (inl on_x) = crowded d e X on_x
+      by (inr on_y) = crowded d e Y on_y
+
   -- the refusal at each place of the list
   pub listed : (k : ℕ) (r : Refusal) → get_or (refusals d e) k None ≡ Some r → Ranks k r
   listed zero r is = range r is
@@ -153,7 +206,8 @@ module _ (d : Diagram) (e : Edit) where
   listed (suc (suc (suc (suc (suc zero))))) r is = in_use r is
   listed (suc (suc (suc (suc (suc (suc zero)))))) r is = members r is
   listed (suc (suc (suc (suc (suc (suc (suc zero))))))) r is = full r is
-  listed (suc (suc (suc (suc (suc (suc (suc (suc k)))))))) r is = cc
+  listed (suc (suc (suc (suc (suc (suc (suc (suc zero)))))))) r is = many_separations r is
+  listed (suc (suc (suc (suc (suc (suc (suc (suc (suc k))))))))) r is = cc
 
   -- ---- each cause that holds is listed at its rank
 
@@ -186,9 +240,60 @@ module _ (d : Diagram) (e : Edit) where
   held (refusal.Limit counted.Compounds count) at = is_full sort.Compound count at
   held (refusal.Limit counted.Groups count) at = is_full sort.Group count at
   held (refusal.Limit counted.Pages count) at = is_full sort.Page count at
+  held (refusal.Limit counted.Seps count) at =
+      ap (λ b. cond b (Some (refusal.Limit counted.Seps most_separations)) None) (either_axis (is_crowded d e) at.axis (crowded_is d e count at)) ∙ ap (λ n. Some (refusal.Limit counted.Seps n)) (sym at.most)
   held (refusal.Limit counted.Entries count) at = absurd at
   held (refusal.Ended place) at = absurd at
   held refusal.Memory at = absurd at
+
+-- ---- the first in the list, a part at a time
+
+first_of-left : (xs ys : List (Option Refusal)) (r : Refusal) → first_of xs ≡ Some r → first_of (xs ++ ys) ≡ Some r
+first_of-left [] ys r is = cc
+first_of-left (None ∷ xs) ys r is = first_of-left xs ys r is
+first_of-left (Some x ∷ xs) ys r is = is
+
+first_of-right : (xs ys : List (Option Refusal)) → first_of xs ≡ None → first_of (xs ++ ys) ≡ first_of ys
+first_of-right [] ys none = refl
+first_of-right (None ∷ xs) ys none = first_of-right xs ys none
+first_of-right (Some x ∷ xs) ys none = cc
+
+first_of-head : (o : Option Refusal) (os : List (Option Refusal)) → o ≡ None → first_of (o ∷ os) ≡ first_of os
+first_of-head None os none = refl
+first_of-head (Some x) os none = cc
+
+module _ (d : Diagram) (e : Edit) where
+  abbrev limits : List (Option Refusal)
+  limits = limit_refusals d (naming e).row (naming e).makes
+
+  abbrev behind_range : List (Option Refusal)
+  behind_range = named_refusals d (naming e) ++ (limits ++ separations_refusal d e ∷ [])
+
+  pub refused_range : (r : Refusal) → range_refusal e ≡ Some r → refusal_of d e ≡ Some r
+  unfolding refusal_of
+  refused_range r is = ap (λ o. first_of (o ∷ behind_range)) is
+
+  pub refused_named : (r : Refusal) → range_refusal e ≡ None → first_of (named_refusals d (naming e)) ≡ Some r → refusal_of d e ≡ Some r
+  unfolding refusal_of
+  refused_named r within is = first_of-head (range_refusal e) behind_range within ∙ first_of-left (named_refusals d (naming e)) (limits ++ separations_refusal d e ∷ []) r is
+
+  -- no cause before the last
+  pub refused_last : range_refusal e ≡ None → first_of (named_refusals d (naming e)) ≡ None → first_of limits ≡ None → refusal_of d e ≡ separations_refusal d e
+  unfolding refusal_of
+  refused_last within named few =
+      first_of-head (range_refusal e) behind_range within
+      ∙ (first_of-right (named_refusals d (naming e)) (limits ++ separations_refusal d e ∷ []) named
+      ∙ (first_of-right limits (separations_refusal d e ∷ []) few ∙ single (separations_refusal d e)))
+    where
+      single : (o : Option Refusal) → first_of (o ∷ []) ≡ o
+      single None = refl
+      single (Some r) = refl
+
+  pub refused_limit : (r : Refusal) → range_refusal e ≡ None → first_of (named_refusals d (naming e)) ≡ None → first_of limits ≡ Some r → refusal_of d e ≡ Some r
+  unfolding refusal_of
+  refused_limit r within named is =
+      first_of-head (range_refusal e) behind_range within
+      ∙ (first_of-right (named_refusals d (naming e)) (limits ++ separations_refusal d e ∷ []) named ∙ first_of-left limits (separations_refusal d e ∷ []) r is)
 
 -- ---- the first in the list
 

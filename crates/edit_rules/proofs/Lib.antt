@@ -3,5 +3,6 @@ pub mod Changing
 pub mod Edges
 pub mod Firsts
 pub mod Judging
+pub mod Keeping
 pub mod ListedNames
 pub mod Repeating

@@ -1,12 +1,15 @@
 -- Why a diagram refuses an edit: what each refusal says, and the first that holds. The causes and their order are this
 -- project's own.
 use Rattle.std.specs.Prelude.{◌≡◌, ℕ, ℤ, ◌<◌, ◌≤◌, length, true, false, Some}
+use Rattle.units.specs.declared.geometry.Axis.{Axis}
 use Rattle.scene_model.specs.declared.items.Sort.{Sort}
 use Rattle.scene_model.specs.declared.items.Sort.TheVariants as sort
+use Rattle.scene_model.specs.declared.items.Thing.{Thing}
 use Rattle.scene_model.specs.Names.{NameOf}
 use Rattle.scene_model.specs.Diagram.{Diagram, most_of}
 use Rattle.scene_model.specs.Uses.{User, users, is_used_in, most_members}
 use Rattle.scene_model.specs.Items.{stands, count_of}
+use Rattle.scene_model.specs.Separations.{separations}
 use Rattle.edit_rules.specs.declared.edits.Edit.{Edit}
 use Rattle.edit_rules.specs.declared.naming.Ask.{Ask}
 use Rattle.edit_rules.specs.declared.naming.NewItem.{NewItem}
@@ -15,9 +18,11 @@ use Rattle.edit_rules.specs.declared.refusals.Counted.{Counted}
 use Rattle.edit_rules.specs.declared.refusals.Counted.TheVariants as counted
 use Rattle.edit_rules.specs.declared.refusals.Refusal.{Refusal}
 use Rattle.edit_rules.specs.declared.refusals.Refusal.TheVariants as refusal
+use Rattle.edit_rules.specs.Effects.{made, edited}
 use Rattle.edit_rules.specs.Firsts.{IsFirst, IsRepeat}
 use Rattle.edit_rules.specs.Naming.{naming, is_of_kind, old_names}
 use Rattle.edit_rules.specs.Ranges.{IsWithin, numbers}
+use Rattle.edit_rules.specs.Refusals.{most_separations}
 
 -- ---- what each refusal says
 
@@ -64,8 +69,16 @@ pub record IsFull (d : Diagram) (e : Edit) (s : Sort) (count : ℕ) : Type 0 whe
   pub full : most_of s ≤ count_of d s
   pub most : count ≡ most_of s
 
--- the limit would be passed: the edit lists more members, or so many of the new item's sort stand. The limit on
--- entries is the document's
+-- the edit makes an item, and the edited diagram has more separations on an axis than it may
+pub record IsCrowded (d : Diagram) (e : Edit) (count : ℕ) : Type 0 where
+  pub thing : Thing
+  pub makes : made d e ≡ Some thing
+  pub axis : Axis
+  pub more : most_separations < length (separations (edited e d) axis)
+  pub most : count ≡ most_separations
+
+-- the limit would be passed: the edit lists more members, so many of the new item's sort stand, or the edited diagram
+-- has more separations. The limit on entries is the document's
 abbrev pub IsPassed : Diagram → Edit → Counted → ℕ → Type 0
 IsPassed d e counted.Members count = (most_members < length (naming e).row) × (count ≡ most_members)
 IsPassed d e counted.Shapes count = IsFull d e sort.Shape count
@@ -74,6 +87,7 @@ IsPassed d e counted.Links count = IsFull d e sort.Link count
 IsPassed d e counted.Compounds count = IsFull d e sort.Compound count
 IsPassed d e counted.Groups count = IsFull d e sort.Group count
 IsPassed d e counted.Pages count = IsFull d e sort.Page count
+IsPassed d e counted.Seps count = IsCrowded d e count
 IsPassed d e counted.Entries count = ⊥
 
 -- what a refusal says of a diagram and an edit. A document that was ended and want of memory are no causes of a diagram
@@ -99,6 +113,7 @@ limit_rank counted.Links = 7
 limit_rank counted.Compounds = 7
 limit_rank counted.Groups = 7
 limit_rank counted.Pages = 7
+limit_rank counted.Seps = 8
 limit_rank counted.Entries = 9
 
 -- the order of the causes

@@ -40,7 +40,7 @@ low_corner d members pad axis = option_map_or (λ z. z) (least (map (low axis) (
 abbrev pub high_corner : Diagram → List NameOf → ℤ → Axis → ℤ
 high_corner d members pad axis = option_map_or (λ z. z) (greatest (map (high axis) (member_shapes d members))) (pos 0) +ℤ pad
 
--- a new group: its frame lies the pad around the members as they are declared now
+-- a new group: its corners lie the pad outside its members as they are declared now
 abbrev pub group_around : Diagram → NameOf → ℤ → List NameOf → Group
 group_around d name pad members = record {
   name = name;

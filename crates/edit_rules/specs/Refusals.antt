@@ -1,13 +1,16 @@
 -- The first refusal of a diagram as a function. What each refusal says stands in `Causes`; `check` tells that both agree.
-use Rattle.std.specs.Prelude.{List, [], ◌∷◌, ◌++◌, length, nat_lt, nat_le, not, if◌then◌else◌, Option, Some, None, find}
+use Rattle.std.specs.Prelude.{ℕ, List, [], ◌∷◌, ◌++◌, length, map, nat_lt, nat_le, not, Bool, false, ◌||◌, if◌then◌else◌, Option, Some, None, find}
 use Rattle.std.specs.Option.{option_map, option_map_or}
 use Rattle.std.specs.List.{list_any}
+use Rattle.units.specs.declared.geometry.Axis.{Axis}
+use Rattle.units.specs.declared.geometry.Axis.TheVariants.{X, Y}
 use Rattle.scene_model.specs.declared.items.Sort.{Sort}
 use Rattle.scene_model.specs.declared.items.Sort.TheVariants as sort
 use Rattle.scene_model.specs.Names.{NameOf, same_name}
 use Rattle.scene_model.specs.Diagram.{Diagram, most_of}
 use Rattle.scene_model.specs.Uses.{most_members, user_of}
 use Rattle.scene_model.specs.Items.{stands, count_of}
+use Rattle.sep_gen.specs.Counted.{count_with}
 use Rattle.edit_rules.specs.declared.edits.Edit.{Edit}
 use Rattle.edit_rules.specs.declared.naming.Ask.{Ask}
 use Rattle.edit_rules.specs.declared.naming.NewItem.{NewItem}
@@ -15,8 +18,9 @@ use Rattle.edit_rules.specs.declared.refusals.Counted.{Counted}
 use Rattle.edit_rules.specs.declared.refusals.Counted.TheVariants as counted
 use Rattle.edit_rules.specs.declared.refusals.Refusal.{Refusal}
 use Rattle.edit_rules.specs.declared.refusals.Refusal.TheVariants as refusal
+use Rattle.edit_rules.specs.Effects.{made}
+use Rattle.edit_rules.specs.Naming.{Naming, naming, is_of_kind}
 use Rattle.edit_rules.specs.Ranges.{numbers, is_outside}
-use Rattle.edit_rules.specs.Naming.{naming, is_of_kind, old_names}
 
 -- the first number outside its range
 abbrev pub range_refusal : Edit → Option Refusal
@@ -68,24 +72,41 @@ count_refusal d s = if nat_le (most_of s) (count_of d s) then Some (refusal.Limi
 abbrev pub full_refusal : Diagram → Option NewItem → Option Refusal
 full_refusal d makes = option_map_or (λ (item : NewItem). count_refusal d item.sort) makes None
 
+-- the most separations of an axis (the limit is this project's own)
+abbrev pub most_separations : ℕ
+most_separations = 2048
+
+-- whether the edit makes an item with which an axis has more separations than that
+abbrev pub is_crowded : Diagram → Edit → Axis → Bool
+is_crowded d e axis = option_map_or (λ t. nat_lt most_separations (count_with d axis t)) (made d e) false
+
+-- with the new item an axis has more separations than it may
+abbrev pub separations_refusal : Diagram → Edit → Option Refusal
+separations_refusal d e = if is_crowded d e X || is_crowded d e Y then Some (refusal.Limit counted.Seps most_separations) else None
+
 -- the first refusal that there is
 abbrev pub first_of : List (Option Refusal) → Option Refusal
 first_of [] = None
 first_of (None ∷ rest) = first_of rest
 first_of (Some r ∷ rest) = Some r
 
+-- those that what an edit says of items by name gives, in their order
+abbrev pub named_refusals : Diagram → Naming → List (Option Refusal)
+named_refusals d says =
+    unknown_among d (map (λ (ask : Ask). ask.name) says.asks)
+    ∷ taken_refusal d says.makes
+    ∷ kind_among d says.asks
+    ∷ twice_among says.row
+    ∷ in_use_refusal d says.frees
+    ∷ []
+
+-- those of the limits on members and on sorts
+abbrev pub limit_refusals : Diagram → List NameOf → Option NewItem → List (Option Refusal)
+limit_refusals d row makes = members_refusal row ∷ full_refusal d makes ∷ []
+
 -- each refusal, in their order
 abbrev pub refusals : Diagram → Edit → List (Option Refusal)
-refusals d e =
-    range_refusal e
-    ∷ unknown_among d (old_names e)
-    ∷ taken_refusal d (naming e).makes
-    ∷ kind_among d (naming e).asks
-    ∷ twice_among (naming e).row
-    ∷ in_use_refusal d (naming e).frees
-    ∷ members_refusal (naming e).row
-    ∷ full_refusal d (naming e).makes
-    ∷ []
+refusals d e = range_refusal e ∷ (named_refusals d (naming e) ++ (limit_refusals d (naming e).row (naming e).makes ++ separations_refusal d e ∷ []))
 
 -- the first refusal, or None where the diagram accepts the edit
 unfoldable pub refusal_of : Diagram → Edit → Option Refusal

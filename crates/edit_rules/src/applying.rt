@@ -24,7 +24,7 @@ pub fn apply(scene: &mut Scene, edit: Edit) -> Result<(), Memory>
     ensures edited { OnOk result (scene.new ≡ edited edit scene.old) }
     ensures unchanged { OnErr result (scene.new ≡ scene.old) }
 {
-    // A scene is sound, which `count` tells.
+    // Asked for what its type keeps, which the proof needs.
     let _shapes = scene.count(Sort::Shape);
     match item_made(scene, edit) {
         Ok(thing) => scene.add(thing),
@@ -150,7 +150,7 @@ fn change(scene: &mut Scene, edit: &Edit)
     requires few { HasMovesLeft scene.old edit.now }
     ensures { scene.new ≡ changed edit.now scene.old }
 {
-    // A scene is sound, which `count` tells.
+    // Asked for what its type keeps, which the proof needs.
     let _shapes = scene.count(Sort::Shape);
     match edit {
         Edit::Size { name, w, h } => resize(scene, name, *w, *h),
@@ -239,7 +239,7 @@ fn set_shape(scene: &mut Scene, shape: Shape)
     requires sound { IsShape shape }
     ensures { scene.new ≡ with_replaced scene.old (ThingShape shape) }
 {
-    // A scene is sound, which `count` tells.
+    // Asked for what its type keeps, which the proof needs.
     let _shapes = scene.count(Sort::Shape);
     scene.set(Thing::Shape(shape));
 }
@@ -269,7 +269,7 @@ fn shift(scene: &mut Scene, name: &Name, at: i32)
     requires near { IsCoordinate at }
     ensures { scene.new ≡ with_guide scene.old name.now (λ (g : GuideValue). record g { at = at; moves = g.moves + 1 }) }
 {
-    // A scene is sound, which `count` tells.
+    // Asked for what its type keeps, which the proof needs.
     let _guides = scene.count(Sort::Guide);
     let guide = standing_guide(scene, name);
     scene.set(Thing::Guide(Guide {

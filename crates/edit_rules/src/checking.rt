@@ -2,15 +2,17 @@
 ghost use Rattle.std.specs.Prelude.{◌≡◌, ◌↔◌, None, Some, Ok, Err, IsOk, MatchResult};
 ghost use Rattle.edit_rules.specs.declared.refusals.Refusal.{Refusal as RefusalValue};
 ghost use Rattle.edit_rules.specs.Causes.{Accepts, IsRefused};
-ghost use Rattle.edit_rules.specs.Refusals.{range_refusal, refusal_of};
+ghost use Rattle.edit_rules.specs.Naming.{naming_of};
+ghost use Rattle.edit_rules.specs.Refusals.{range_refusal, first_of, named_refusals, refusal_of};
 
+use crate::crowding::separations_refusal;
 use crate::edits::Edit;
-use crate::sorts::kind_refusal;
-use crate::limits::{full_refusal, members_refusal};
-use crate::naming::names_of;
+use crate::limits::limit_refusal;
+use crate::naming::{Names, names_of};
 use crate::ranges::first_number_outside;
 use crate::refusals::Refusal;
 use crate::repeats::twice_refusal;
+use crate::sorts::kind_refusal;
 use crate::standing::{in_use_refusal, taken_refusal, unknown_refusal};
 use scene_model::Scene;
 
@@ -27,7 +29,8 @@ use scene_model::Scene;
 /// - InUse, where the item to be removed is used by another: the first of the links, then of the compounds, then of the
 ///   groups, each in the order of making;
 /// - Limit Members, where the edit lists more than 64 members; then Limit Shapes, Guides, Links, Compounds, Groups or
-///   Pages, where 128, 64, 256, 128, 32 or 1 of the new item's sort stand.
+///   Pages, where 128, 64, 256, 128, 32 or 1 of the new item's sort stand; then Limit Seps, where with the new item there
+///   would be more than 2,048 separations on X, or on Y.
 ///
 /// It takes no memory.
 pub fn check(scene: &Scene, edit: &Edit) -> Result<(), Refusal>
@@ -39,7 +42,6 @@ pub fn check(scene: &Scene, edit: &Edit) -> Result<(), Refusal>
 }
 
 /// The first refusal that has a cause.
-#[tactic(auto, unfolding(crate::specs::Refusals::refusal_of))]
 fn first_refusal(scene: &Scene, edit: &Edit) -> Result<(), Refusal>
     ensures { MatchResult result (λ _. refusal_of scene.now edit.now ≡ None) (λ r. refusal_of scene.now edit.now ≡ Some r) }
 {
@@ -47,25 +49,13 @@ fn first_refusal(scene: &Scene, edit: &Edit) -> Result<(), Refusal>
         return Err(refusal);
     }
     let names = names_of(edit);
-    if let Some(refusal) = unknown_refusal(scene, &names) {
+    if let Some(refusal) = named_refusal(scene, &names) {
         return Err(refusal);
     }
-    if let Some(refusal) = taken_refusal(scene, &names.makes) {
+    if let Some(refusal) = limit_refusal(scene, &names.row, &names.makes) {
         return Err(refusal);
     }
-    if let Some(refusal) = kind_refusal(scene, &names) {
-        return Err(refusal);
-    }
-    if let Some(refusal) = twice_refusal(&names.row) {
-        return Err(refusal);
-    }
-    if let Some(refusal) = in_use_refusal(scene, &names.frees) {
-        return Err(refusal);
-    }
-    if let Some(refusal) = members_refusal(&names.row) {
-        return Err(refusal);
-    }
-    if let Some(refusal) = full_refusal(scene, &names.makes) {
+    if let Some(refusal) = separations_refusal(scene, edit) {
         return Err(refusal);
     }
     Ok(())
@@ -79,4 +69,23 @@ fn range_refusal(edit: &Edit) -> Option<Refusal>
         Some(value) => Some(Refusal::Range { value }),
         None => None,
     }
+}
+
+/// The first refusal for what an edit says of items by name.
+fn named_refusal(scene: &Scene, names: &Names) -> Option<Refusal>
+    ensures { result ≡ first_of (named_refusals scene.now (naming_of names.now)) }
+{
+    if let Some(refusal) = unknown_refusal(scene, names) {
+        return Some(refusal);
+    }
+    if let Some(refusal) = taken_refusal(scene, &names.makes) {
+        return Some(refusal);
+    }
+    if let Some(refusal) = kind_refusal(scene, names) {
+        return Some(refusal);
+    }
+    if let Some(refusal) = twice_refusal(&names.row) {
+        return Some(refusal);
+    }
+    in_use_refusal(scene, &names.frees)
 }

@@ -116,11 +116,11 @@ pub fn expect(holds: bool, word: &str) -> Result<(), Fail> {
 }
 
 /// Whether the scene refuses the edit for this cause.
-fn refuses(scene: &Scene, edit: Edit, cause: Refusal) -> bool {
+pub fn refuses(scene: &Scene, edit: Edit, cause: Refusal) -> bool {
     check(scene, &edit) == Err(cause)
 }
 
-fn limit(what: Counted, count: u32) -> Refusal {
+pub fn limit(what: Counted, count: u32) -> Refusal {
     Refusal::Limit { what, count }
 }
 

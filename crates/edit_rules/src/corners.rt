@@ -12,7 +12,7 @@ ghost use Rattle.scene_model.specs.Variables.{low, high};
 ghost use Rattle.edit_rules.specs.Corners.{IsMember, IsLowCorner, IsHighCorner};
 ghost use Rattle.edit_rules.specs.Effects.{least, greatest, member_shapes, low_corner, high_corner, group_around};
 
-use scene_model::{Group, Scene, Shape, Sort};
+use scene_model::{Group, Scene, Shape, Sort, is_among};
 use std::cmp::{max, min};
 use units::{Axis, Members, Name, Pt};
 
@@ -77,8 +77,8 @@ fn least_with(least: Option<i64>, members: &[Name], shape: &Shape, axis: Axis) -
     requires { IsShape shape.now }
     ensures { result ≡ (if list_any (same_name shape.now.name) members.now then Some (option_map_or (int_min (low axis shape.now)) least (low axis shape.now)) else least) }
 {
-    if is_member(members, &shape.name) {
-        Some(lesser(least, low(shape, axis)))
+    if is_among(members, &shape.name) {
+        Some(lesser(least, i64::from(shape.low(axis))))
     } else {
         least
     }
@@ -101,17 +101,11 @@ fn greatest_with(greatest: Option<i64>, members: &[Name], shape: &Shape, axis: A
     requires { IsShape shape.now }
     ensures { result ≡ (if list_any (same_name shape.now.name) members.now then Some (option_map_or (int_max (high axis shape.now)) greatest (high axis shape.now)) else greatest) }
 {
-    if is_member(members, &shape.name) {
-        Some(greater(greatest, high(shape, axis)))
+    if is_among(members, &shape.name) {
+        Some(greater(greatest, shape.high(axis)))
     } else {
         greatest
     }
-}
-
-fn is_member(members: &[Name], name: &Name) -> bool
-    ensures { result ≡ list_any (same_name name.now) members.now }
-{
-    members.contains(name)
 }
 
 fn lesser(least: Option<i64>, edge: i64) -> i64
@@ -129,27 +123,5 @@ fn greater(greatest: Option<i64>, edge: i64) -> i64
     match greatest {
         Some(other) => max(edge, other),
         None => edge,
-    }
-}
-
-fn low(shape: &Shape, axis: Axis) -> i64
-    requires { IsShape shape.now }
-    ensures value { result ≡ low axis shape.now }
-    ensures near { nat_abs result ≤ 1000000 }
-{
-    match axis {
-        Axis::X => i64::from(shape.x),
-        Axis::Y => i64::from(shape.y),
-    }
-}
-
-fn high(shape: &Shape, axis: Axis) -> i64
-    requires { IsShape shape.now }
-    ensures value { result ≡ high axis shape.now }
-    ensures near { nat_abs result ≤ 1010000 }
-{
-    match axis {
-        Axis::X => i64::from(shape.x) + i64::from(shape.w),
-        Axis::Y => i64::from(shape.y) + i64::from(shape.h),
     }
 }

@@ -4,12 +4,13 @@
 mod applying;
 mod checking;
 mod corners;
-pub mod edits;
+mod crowding;
+mod edits;
 mod limits;
 mod moves;
 mod naming;
 mod ranges;
-pub mod refusals;
+mod refusals;
 mod repeats;
 mod sorts;
 mod standing;
@@ -17,11 +18,14 @@ mod standing;
 pub use applying::apply;
 pub use checking::check;
 pub use corners::corner_law;
+pub use crowding::separations_law;
 pub use edits::Edit;
 pub use moves::has_moves_left;
 pub use refusals::{Counted, Refusal};
 
 #[cfg(test)]
 mod checking_tests;
+#[cfg(test)]
+mod limit_tests;
 #[cfg(test)]
 mod tests;

@@ -2,7 +2,7 @@
 ghost use Rattle.std.specs.Prelude.{◌≡◌};
 ghost use Rattle.scene_model.specs.Diagram.{most_of};
 ghost use Rattle.edit_rules.specs.Naming.{row_names};
-ghost use Rattle.edit_rules.specs.Refusals.{counted_as, members_refusal, count_refusal, full_refusal};
+ghost use Rattle.edit_rules.specs.Refusals.{counted_as, first_of, members_refusal, count_refusal, full_refusal, limit_refusals};
 
 use crate::naming::{NewItem, Row};
 use crate::refusals::{Counted, Refusal};
@@ -11,8 +11,18 @@ use scene_model::{Scene, Sort};
 /// The most members of a compound or group.
 const MOST_MEMBERS: u32 = 64;
 
+/// The first limit on members or sorts that the new item would pass.
+pub fn limit_refusal(scene: &Scene, row: &Row, makes: &Option<NewItem>) -> Option<Refusal>
+    ensures { result ≡ first_of (limit_refusals scene.now (row_names row.now) makes.now) }
+{
+    if let Some(refusal) = members_refusal(row) {
+        return Some(refusal);
+    }
+    full_refusal(scene, makes)
+}
+
 /// More members than a compound or group may have.
-pub fn members_refusal(row: &Row) -> Option<Refusal>
+fn members_refusal(row: &Row) -> Option<Refusal>
     ensures { result ≡ members_refusal (row_names row.now) }
 {
     if row.len() <= MOST_MEMBERS as usize {
@@ -25,7 +35,7 @@ pub fn members_refusal(row: &Row) -> Option<Refusal>
 }
 
 /// The limit on the sort of the new item, where so many stand.
-pub fn full_refusal(scene: &Scene, makes: &Option<NewItem>) -> Option<Refusal>
+fn full_refusal(scene: &Scene, makes: &Option<NewItem>) -> Option<Refusal>
     ensures { result ≡ full_refusal scene.now makes.now }
 {
     match makes {

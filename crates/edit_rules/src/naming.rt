@@ -37,7 +37,7 @@ pub struct NewItem {
 }
 
 /// Names that must differ, in the order of the line.
-#[derive(Drop)]
+#[derive(Clone, Copy)]
 pub enum Row<'a> {
     Nothing,
     /// A and B.
@@ -75,7 +75,7 @@ impl<'a> Row<'a> {
 }
 
 /// What an edit says of items by name.
-#[derive(Drop)]
+#[derive(Clone, Copy)]
 pub struct Names<'a> {
     /// The name in front of the row, which must stand: of the item that is changed or taken away, or of the guideline
     /// of an alignment.

@@ -13,6 +13,8 @@ pub enum Counted {
     Compounds,
     Pages,
     Members,
+    /// The separations of an axis.
+    Seps,
     Entries,
 }
 

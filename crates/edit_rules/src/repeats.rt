@@ -1,12 +1,11 @@
 //! Names of an edit that must differ.
 ghost use Rattle.std.specs.Prelude.{◌≡◌, []};
-ghost use Rattle.std.specs.List.{list_any};
-ghost use Rattle.scene_model.specs.Names.{same_name};
 ghost use Rattle.edit_rules.specs.Naming.{row_names};
 ghost use Rattle.edit_rules.specs.Refusals.{first_twice, twice_among};
 
 use crate::naming::Row;
 use crate::refusals::Refusal;
+use scene_model::is_among;
 use units::Name;
 
 /// The first name of the row that equals an earlier one.
@@ -38,10 +37,4 @@ fn first_twice(names: &[Name]) -> Option<Name>
         }
     }
     None
-}
-
-fn is_among(names: &[Name], name: &Name) -> bool
-    ensures { result ≡ list_any (same_name name.now) names.now }
-{
-    names.contains(name)
 }
