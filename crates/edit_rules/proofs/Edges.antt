@@ -128,8 +128,8 @@ abbrev AllBehind : (before : ℤ → ℤ → Type 0) (edge : Shape → ℤ) (p :
 AllBehind before edge p ss m = (k : ℕ) (s : Shape) → slice_get ss k ≡ Some s → p s ≡ true → before m (edge s)
 
 module _ (before : ℤ → ℤ → Type 0) (same : (a : ℤ) → before a a) (then : (a b c : ℤ) → before a b → before b c → before a c)
-         (choose : ℤ → ℤ → ℤ) (first : (a b : ℤ) → before (choose a b) a) (second : (a b : ℤ) → before (choose a b) b) (either : (a b : ℤ) → (choose a b ≡ a) ⊎ (choose a b ≡ b))
-         (edge : Shape → ℤ) (p : Shape → Bool) where
+    (choose : ℤ → ℤ → ℤ) (first : (a b : ℤ) → before (choose a b) a) (second : (a b : ℤ) → before (choose a b) b) (either : (a b : ℤ) → (choose a b ≡ a) ⊎ (choose a b ≡ b))
+    (edge : Shape → ℤ) (p : Shape → Bool) where
   abbrev best : Option ℤ → List ℤ → Option ℤ
   best o zs = fold (λ (o : Option ℤ) (z : ℤ). Some (option_map_or (choose z) o z)) o zs
 
@@ -145,12 +145,15 @@ module _ (before : ℤ → ℤ → Type 0) (same : (a : ℤ) → before a a) (th
   best_from (s ∷ ss) y = by (p s) refl (best_from ss (choose (edge s) y)) (best_from ss y)
     where
       by : (b : Bool) → p s ≡ b → (m : ℤ) × IsBest ss (choose (edge s) y) m → (m : ℤ) × IsBest ss y m → (m : ℤ) × IsBest (s ∷ ss) y m
-      by true passes with_s without_s = (with_s.0, record {
-        value = ap (λ b. best (Some y) (map edge (cond b (s ∷ filter p ss) (filter p ss)))) passes ∙ with_s.1.value;
-        least = then with_s.0 (choose (edge s) y) y with_s.1.least (second (edge s) y);
-        all = all;
-        some = some with_s.1.some;
-      })
+      by true passes with_s without_s = (
+        with_s.0,
+        record {
+          value = ap (λ b. best (Some y) (map edge (cond b (s ∷ filter p ss) (filter p ss)))) passes ∙ with_s.1.value;
+          least = then with_s.0 (choose (edge s) y) y with_s.1.least (second (edge s) y);
+          all = all;
+          some = some with_s.1.some;
+        },
+      )
         where
           all : AllBehind before edge p (s ∷ ss) with_s.0
           all zero t there h = let is : s ≡ t = cc in subst (λ (u : Shape). before with_s.0 (edge u)) is (then with_s.0 (choose (edge s) y) (edge s) with_s.1.least (first (edge s) y))
@@ -163,12 +166,15 @@ module _ (before : ℤ → ℤ → Type 0) (same : (a : ℤ) → before a a) (th
               chosen (inl e) = inr (record { at = 0; shape = s; there = refl; passes = passes; is = is ∙ e })
               chosen (inr e) = inl (is ∙ e)
           some (inr has) = inr (later_edge edge p s ss with_s.0 has)
-      by false fails with_s without_s = (without_s.0, record {
-        value = ap (λ b. best (Some y) (map edge (cond b (s ∷ filter p ss) (filter p ss)))) fails ∙ without_s.1.value;
-        least = without_s.1.least;
-        all = all;
-        some = some without_s.1.some;
-      })
+      by false fails with_s without_s = (
+        without_s.0,
+        record {
+          value = ap (λ b. best (Some y) (map edge (cond b (s ∷ filter p ss) (filter p ss)))) fails ∙ without_s.1.value;
+          least = without_s.1.least;
+          all = all;
+          some = some without_s.1.some;
+        },
+      )
         where
           all : AllBehind before edge p (s ∷ ss) without_s.0
           all zero t there h = let is : s ≡ t = cc in let no = ap p is in cc
@@ -190,12 +196,14 @@ module _ (before : ℤ → ℤ → Type 0) (same : (a : ℤ) → before a a) (th
     where
       by : (b : Bool) → p s ≡ b → ((k : ℕ) (t : Shape) → slice_get ss k ≡ Some t → p t ≡ true → (m : ℤ) × IsBestEdge ss m) → (m : ℤ) × IsBestEdge (s ∷ ss) m
       by true here rest =
-          let x = best_from ss (edge s) in
-          (x.0, record {
-            value = ap (λ b. best None (map edge (cond b (s ∷ filter p ss) (filter p ss)))) here ∙ x.1.value;
-            all = all x.0 x.1.least x.1.all;
-            some = some x.0 x.1.some;
-          })
+          let x = best_from ss (edge s) in (
+            x.0,
+            record {
+              value = ap (λ b. best None (map edge (cond b (s ∷ filter p ss) (filter p ss)))) here ∙ x.1.value;
+              all = all x.0 x.1.least x.1.all;
+              some = some x.0 x.1.some;
+            },
+          )
         where
           all : (m : ℤ) → before m (edge s) → AllBehind before edge p ss m → AllBehind before edge p (s ∷ ss) m
           all m lowest rest zero u at h = let is : s ≡ u = cc in subst (λ (v : Shape). before m (edge v)) is lowest
@@ -213,12 +221,14 @@ module _ (before : ℤ → ℤ → Type 0) (same : (a : ℤ) → before a a) (th
           later : (k : ℕ) → slice_get (s ∷ ss) k ≡ Some t → (m : ℤ) × IsBestEdge (s ∷ ss) m
           later zero at = let is : s ≡ t = cc in let no = ap p is in cc
           later (suc j) at =
-              let x = rest j t at passes in
-              (x.0, record {
-                value = ap (λ b. best None (map edge (cond b (s ∷ filter p ss) (filter p ss)))) here ∙ x.1.value;
-                all = all x.0 x.1.all;
-                some = later_edge edge p s ss x.0 x.1.some;
-              })
+              let x = rest j t at passes in (
+                x.0,
+                record {
+                  value = ap (λ b. best None (map edge (cond b (s ∷ filter p ss) (filter p ss)))) here ∙ x.1.value;
+                  all = all x.0 x.1.all;
+                  some = later_edge edge p s ss x.0 x.1.some;
+                },
+              )
 
 -- ---- the corners of a group
 

@@ -19,11 +19,10 @@ use Rattle.edit_rules.specs.declared.edits.Edit.{Edit}
 use Rattle.edit_rules.specs.declared.naming.Ask.{Ask}
 use Rattle.edit_rules.specs.declared.naming.NewItem.{NewItem}
 use Rattle.edit_rules.specs.declared.ranges.Ranged.{Ranged}
-use Rattle.edit_rules.specs.declared.refusals.Counted.{Counted}
 use Rattle.edit_rules.specs.declared.refusals.Counted.TheVariants as counted
 use Rattle.edit_rules.specs.declared.refusals.Refusal.{Refusal}
 use Rattle.edit_rules.specs.declared.refusals.Refusal.TheVariants as refusal
-use Rattle.edit_rules.specs.Causes.{Holds, rank, limit_rank, IsFull, IsCrowded, IsRefused, Accepts}
+use Rattle.edit_rules.specs.Causes.{Holds, rank, IsFull, IsCrowded, IsRefused, Accepts}
 use Rattle.edit_rules.specs.Effects.{made, changed, edited}
 use Rattle.edit_rules.specs.Naming.{naming, is_of_kind, old_names}
 use Rattle.edit_rules.specs.Ranges.{IsWithin, numbers, is_outside}
@@ -137,12 +136,15 @@ module _ (d : Diagram) (e : Edit) where
   kind : (r : Refusal) → kind_among d (naming e).asks ≡ Some r → Ranks 3 r
   kind r is =
       let x = mapped (λ (ask : Ask). refusal.Kind ask.name) (find (λ (ask : Ask). not (is_of_kind d ask.kind ask.name)) (naming e).asks) r is in
-      subst (Ranks 3) x.2 (record {
-        ask = x.0;
-        first = find-first (λ (ask : Ask). not (is_of_kind d ask.kind ask.name)) (λ (ask : Ask). is_of_kind d ask.kind ask.name ≡ false)
-          (λ (ask : Ask) h. not_false (is_of_kind d ask.kind ask.name) h) (λ (ask : Ask) h. not_true (is_of_kind d ask.kind ask.name) h) (naming e).asks x.0 x.1;
-        named = refl;
-      }, refl)
+      subst (Ranks 3) x.2 (
+        record {
+          ask = x.0;
+          first = find-first (λ (ask : Ask). not (is_of_kind d ask.kind ask.name)) (λ (ask : Ask). is_of_kind d ask.kind ask.name ≡ false)
+              (λ (ask : Ask) h. not_false (is_of_kind d ask.kind ask.name) h) (λ (ask : Ask) h. not_true (is_of_kind d ask.kind ask.name) h) (naming e).asks x.0 x.1;
+          named = refl;
+        },
+        refl,
+      )
 
   twice : (r : Refusal) → twice_among (naming e).row ≡ Some r → Ranks 4 r
   twice r is =
@@ -157,13 +159,16 @@ module _ (d : Diagram) (e : Edit) where
       by (Some name) frees is =
           let x = mapped refusal.InUse (user_of d name) r is in
           let u = mapped (λ (user : User). user.name) (find (λ (user : User). is_used_in user.uses name) (users d)) x.0 x.1 in
-          subst (Ranks 5) x.2 (record {
-            name = name;
-            frees = frees;
-            user = u.0;
-            first = find-first (λ (user : User). is_used_in user.uses name) (λ (user : User). is_used_in user.uses name ≡ true) (λ (user : User) h. h) (λ (user : User) h no_h. cc) (users d) u.0 u.1;
-            named = u.2;
-          }, refl)
+          subst (Ranks 5) x.2 (
+            record {
+              name = name;
+              frees = frees;
+              user = u.0;
+              first = find-first (λ (user : User). is_used_in user.uses name) (λ (user : User). is_used_in user.uses name ≡ true) (λ (user : User) h. h) (λ (user : User) h no_h. cc) (users d) u.0 u.1;
+              named = u.2;
+            },
+            refl,
+          )
 
   members : (r : Refusal) → members_refusal (naming e).row ≡ Some r → Ranks 6 r
   members r is =
@@ -225,7 +230,7 @@ module _ (d : Diagram) (e : Edit) where
       ap (taken_refusal d) at.makes ∙ (ap (λ n. cond (stands d n) (Some (refusal.Taken n)) None) at.named ∙ ap (λ b. cond b (Some (refusal.Taken name)) None) at.stands)
   held (refusal.Kind name) at =
       ap (option_map (λ (ask : Ask). refusal.Kind ask.name)) (first-find (λ (ask : Ask). not (is_of_kind d ask.kind ask.name)) (λ (ask : Ask). is_of_kind d ask.kind ask.name ≡ false)
-        (λ (ask : Ask) h. not_false (is_of_kind d ask.kind ask.name) h) (λ (ask : Ask) h. not_true (is_of_kind d ask.kind ask.name) h) (naming e).asks at.ask at.first)
+      (λ (ask : Ask) h. not_false (is_of_kind d ask.kind ask.name) h) (λ (ask : Ask) h. not_true (is_of_kind d ask.kind ask.name) h) (naming e).asks at.ask at.first)
       ∙ ap (λ n. Some (refusal.Kind n)) at.named
   held (refusal.Twice name) at = ap (option_map refusal.Twice) (repeat-twice (naming e).row name at)
   held (refusal.InUse by) at =

@@ -1,5 +1,5 @@
 -- An accepted edit keeps a diagram within the limit on separations.
-use Rattle.std.proofs.Common.{◌≡◌, ◌+◌, ◌≤◌, ℕ, Bool, true, false, cond, ◌||◌, Option, Some, None, length, refl, ap, sym, ◌∙◌, subst, arith}
+use Rattle.std.proofs.Common.{◌≡◌, ◌+◌, ◌≤◌, Bool, true, false, cond, ◌||◌, Option, Some, None, length, refl, ap, sym, ◌∙◌, subst, arith}
 use Rattle.std.specs.Prelude.{nat_lt}
 use Rattle.std.specs.Option.{option_map_or}
 use Rattle.std.proofs.lemmas.Bool.{ltb-false}
@@ -23,7 +23,7 @@ use Rattle.edit_rules.specs.declared.refusals.Refusal.TheVariants as refusal
 use Rattle.edit_rules.specs.Causes.{Accepts}
 use Rattle.edit_rules.specs.Effects.{made, changed, edited, with_found_shape, with_found_guide}
 use Rattle.edit_rules.specs.Refusals.{most_separations, is_crowded, separations_refusal, refusal_of}
-use Rattle.edit_rules.proofs.Accepting.{IsAccepted, accepted}
+use Rattle.edit_rules.proofs.Accepting.{accepted}
 use Rattle.edit_rules.proofs.Changing.{guide_named}
 use Rattle.edit_rules.proofs.Judging.{edited_made, accepted_none}
 

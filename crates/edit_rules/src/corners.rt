@@ -23,8 +23,7 @@ pub fn corner_law()
         → IsMember d members s → IsLowCorner d members pad axis (low_corner d members pad axis) }
     ensures high { (d : Diagram) (members : List NameOf) (pad : ℤ) (axis : AxisValue) (s : ShapeValue)
         → IsMember d members s → IsHighCorner d members pad axis (high_corner d members pad axis) }
-{
-}
+{}
 
 /// The group around these members, as they are declared now.
 pub fn group_around(scene: &Scene, name: Name, pad: i32, members: Members) -> Group

@@ -69,10 +69,14 @@ fn count_with_new(scene: &Scene, edit: &Edit, axis: Axis) -> Option<u32>
         Edit::Join { .. } => Some(count_with_link(scene, axis)),
         Edit::Align { guide, members, .. } => Some(count_with_align(scene, axis, guide, members)),
         Edit::Spread {
-            axis: own, members, ..
+            axis: own,
+            members,
+            ..
         } => Some(count_with_row(scene, axis, *own, members)),
         Edit::Rank {
-            axis: own, members, ..
+            axis: own,
+            members,
+            ..
         } => Some(count_with_row(scene, axis, *own, members)),
         Edit::Apart { axis: own, .. } => Some(count_with_apart(scene, axis, *own)),
         Edit::Group { members, .. } => Some(count_with_group(scene, axis, members)),
@@ -109,5 +113,4 @@ fn count_with_link(scene: &Scene, axis: Axis) -> u32
 pub fn separations_law()
     ensures { (d : Diagram) (e : EditValue) (axis : AxisValue) → IsSound d → Accepts d e
         → length (separations d axis) ≤ most_separations → length (separations (edited e d) axis) ≤ most_separations }
-{
-}
+{}

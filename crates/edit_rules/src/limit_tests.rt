@@ -1,5 +1,7 @@
 //! The limit on separations, and a flow chart played edit by edit.
-use crate::checking_tests::{accepted, expect, group, guide, limit, members, name, rank, refuses, spread};
+use crate::checking_tests::{
+    accepted, expect, group, guide, limit, members, name, rank, refuses, spread,
+};
 use crate::{Counted, Edit, Refusal};
 use scene_model::{AlignLine, Form, Scene};
 use sep_gen::count;
@@ -12,7 +14,13 @@ fn numbered(letter: u8, number: u8) -> Result<Name, Fail> {
     name(&[letter, b'0' + number / 10, b'0' + number % 10])
 }
 
-fn put_form(scene: &mut Scene, form: Form, name: Name, at: (i32, i32), size: (i32, i32)) -> Result<(), Fail> {
+fn put_form(
+    scene: &mut Scene,
+    form: Form,
+    name: Name,
+    at: (i32, i32),
+    size: (i32, i32),
+) -> Result<(), Fail> {
     let (x, y) = at;
     let (w, h) = size;
     accepted(
@@ -32,7 +40,13 @@ fn put_form(scene: &mut Scene, form: Form, name: Name, at: (i32, i32), size: (i3
 fn put_column(scene: &mut Scene, column: &mut Vec<Name>) -> Result<(), Fail> {
     for number in 1..65 {
         let name = numbered(b'b', number)?;
-        put_form(scene, Form::Box, name, (0, 20 * i32::from(number)), (10, 10))?;
+        put_form(
+            scene,
+            Form::Box,
+            name,
+            (0, 20 * i32::from(number)),
+            (10, 10),
+        )?;
         column.push(name)?;
     }
     Ok(())
@@ -45,7 +59,10 @@ fn rank_column(scene: &mut Scene, alloc: Global, column: &[Name]) -> Result<(), 
         accepted(scene, rank(name, Axis::X, 10, members(alloc, column)?))?;
     }
     let first = column.get(..33).ok_or("33 boxes")?;
-    accepted(scene, rank(name(b"last")?, Axis::X, 10, members(alloc, first)?))
+    accepted(
+        scene,
+        rank(name(b"last")?, Axis::X, 10, members(alloc, first)?),
+    )
 }
 
 fn at_least(name: Name, axis: Axis, a: Name, b: Name, gap: i32) -> Edit {
@@ -73,8 +90,22 @@ fn tells_separations(scene: &mut Scene, alloc: Global) -> Result<(), Fail> {
     let b = numbered(b'b', 2)?;
     let q = name(b"q")?;
     expect(count(scene, Axis::X) == 2_048, "2,048 on X")?;
-    expect(refuses(scene, at_least(z, Axis::X, a, b, 0), limit(Counted::Seps, 2_048)), "one more")?;
-    expect(refuses(scene, at_least(z, Axis::X, a, q, 0), Refusal::Unknown { name: q }), "unknown first")?;
+    expect(
+        refuses(
+            scene,
+            at_least(z, Axis::X, a, b, 0),
+            limit(Counted::Seps, 2_048),
+        ),
+        "one more",
+    )?;
+    expect(
+        refuses(
+            scene,
+            at_least(z, Axis::X, a, q, 0),
+            Refusal::Unknown { name: q },
+        ),
+        "unknown first",
+    )?;
     accepted(scene, at_least(z, Axis::Y, a, b, 0))
 }
 
@@ -163,7 +194,10 @@ fn draw_guides(scene: &mut Scene) -> Result<(), Fail> {
 }
 
 fn draw_rows(scene: &mut Scene, alloc: Global) -> Result<(), Fail> {
-    let main = listed(alloc, &["start", "read", "check", "parse", "plan", "run", "test"])?;
+    let main = listed(
+        alloc,
+        &["start", "read", "check", "parse", "plan", "run", "test"],
+    )?;
     align_mid(scene, "c1", "main", main)?;
     let side = listed(alloc, &["ask", "fix", "log", "fail"])?;
     align_mid(scene, "c2", "side", side)?;
@@ -195,8 +229,14 @@ fn draw_flow_chart(scene: &mut Scene, alloc: Global) -> Result<(), Fail> {
     draw_guides(scene)?;
     draw_rows(scene, alloc)?;
     draw_areas(scene, alloc)?;
-    expect(scene.vars(Axis::X) == 18 && scene.vars(Axis::Y) == 17, "variables")?;
-    expect(count(scene, Axis::X) == 43 && count(scene, Axis::Y) == 39, "separations")
+    expect(
+        scene.vars(Axis::X) == 18 && scene.vars(Axis::Y) == 17,
+        "variables",
+    )?;
+    expect(
+        count(scene, Axis::X) == 43 && count(scene, Axis::Y) == 39,
+        "separations",
+    )
 }
 
 #[test]

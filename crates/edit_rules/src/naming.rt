@@ -203,7 +203,11 @@ pub fn names_of(edit: &Edit) -> Names<'_>
             ..
         } => Names::making(Sort::Compound, *name, Kind::Placed(*axis), members.list()),
         Edit::Apart {
-            name, axis, a, b, ..
+            name,
+            axis,
+            a,
+            b,
+            ..
         } => Names::pair(Sort::Compound, *name, Kind::Placed(*axis), *a, *b),
         Edit::Group { name, members, .. } => {
             Names::making(Sort::Group, *name, Kind::Shape, members.list())
