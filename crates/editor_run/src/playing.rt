@@ -42,7 +42,7 @@ pub fn play_line(
             })),
             Laid::Memory => Err(Memory),
         },
-        Command::Where { name } => match book.ask(name) {
+        Command::Where(name) => match book.ask(name) {
             Ok(answer) => replies.push(Reply::Answer(answer)),
             Err(Refused { refusal, front }) => {
                 replies.push(Reply::Refused(Refused { refusal, front }))

@@ -190,7 +190,7 @@ pub fn command(words: &mut Pieces<'_>) -> Result<Command, FaultKind>
         }
         Keyword::Where => {
             let name = one_name(words).ok_or(FaultKind::Fields)?;
-            Ok(Command::Where { name })
+            Ok(Command::Where(name))
         }
         other => Err(unbuilt(other, words)),
     }

@@ -62,10 +62,10 @@ pub fn add(lines: &mut Vec<Line>, line: Line) -> Result<(), ReadFault>
             session,
             command: Command::Layout,
         })?,
-        Command::Where { name } => lines.push(Line {
+        Command::Where(name) => lines.push(Line {
             number,
             session,
-            command: Command::Where { name },
+            command: Command::Where(name),
         })?,
     }
     Ok(())

@@ -288,7 +288,7 @@ pub fn command_text(alloc: Global, command: &Command) -> Result<Vec<u8>, Memory>
             add_keyword(&mut text, Keyword::Layout)?;
             Ok(text)
         }
-        Command::Where { name } => name_text(alloc, Keyword::Where, name),
+        Command::Where(name) => name_text(alloc, Keyword::Where, name),
     }
 }
 

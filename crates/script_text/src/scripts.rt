@@ -14,7 +14,7 @@ pub enum Command {
     /// Lays the diagram out, once.
     Layout,
     /// Asks where the item of this name stands.
-    Where { name: Name },
+    Where(Name),
 }
 
 /// A command line of a script.

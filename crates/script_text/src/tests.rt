@@ -47,7 +47,7 @@ fn scripts_are_read(rt: HostRuntime) -> Result<(), Fail> {
         line(2, Command::Edit(first_box().ok_or("a box")?)),
         line(3, Command::Edit(guide)),
         line(4, Command::Edit(Edit::Shift { name, at: 7 })),
-        line(5, Command::Where { name }),
+        line(5, Command::Where(name)),
         line(6, Command::Layout),
     ];
     assert_eq!(rt; script.lines(), lines.as_slice());
@@ -313,7 +313,7 @@ fn commands_have_texts(rt: HostRuntime) -> Result<(), Fail> {
         Command::Edit(Edit::Join { name, a, b }),
         Command::Edit(Edit::Unlink { name }),
         Command::Layout,
-        Command::Where { name },
+        Command::Where(name),
     ];
     let text =
         "box b_2 -1000000 0 10000 1\noval b_2 -1000000 0 10000 1\ndiamond b_2 -1000000 0 10000 1\n\
