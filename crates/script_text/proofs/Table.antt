@@ -5,7 +5,7 @@ use Rattle.std.specs.List.{slice_get, list_any}
 use Rattle.std.specs.Option.{is_some}
 use Rattle.std.proofs.lemmas.Slice.Eq.{bytes_eq-Decides}
 use Rattle.script_text.specs.Words.{Word}
-use Rattle.script_text.specs.Keywords.{keyword_word, all_keywords, is_built}
+use Rattle.script_text.specs.Keywords.{keyword_word, all_keywords}
 use Rattle.script_text.specs.Reading.{keyword_among, keyword_of}
 use Rattle.script_text.specs.declared.keywords.Keyword.{Keyword}
 use Rattle.script_text.specs.declared.keywords.Keyword.TheVariants as keyword
@@ -96,21 +96,3 @@ no_row_any (x ∷ table) w none =
 pub found_any : (table : List Word) (w : Word) (r : Option ℕ) → IfSome r (λ row. slice_get table row ≡ Some w) → ((row : ℕ) → slice_get table row ≡ Some w → r ≡ Some row) → is_some r ≡ list_any (bytes_eq w) table
 found_any table w (Some row) is own = sym (any_row table w row is)
 found_any table w None is own = sym (no_row_any table w (λ row e. no_row None row refl (own row e)))
-
--- ---- what is built
-
--- a command that is none of those that the program has
-pub not_built : (k : Keyword) → (k ≡ keyword.Box → ⊥) → (k ≡ keyword.Oval → ⊥) → (k ≡ keyword.Diamond → ⊥) → (k ≡ keyword.Size → ⊥) → (k ≡ keyword.Move → ⊥) → (k ≡ keyword.Shift → ⊥) → (k ≡ keyword.Hold → ⊥) → (k ≡ keyword.Free → ⊥) → (k ≡ keyword.Remove → ⊥) → (k ≡ keyword.Guide → ⊥) → (k ≡ keyword.Layout → ⊥) → (k ≡ keyword.Where → ⊥) → is_built k ≡ false
-not_built keyword.Box not_box not_oval not_diamond not_size not_move not_shift not_hold not_free not_remove not_guide not_layout not_where = absurd (not_box refl)
-not_built keyword.Oval not_box not_oval not_diamond not_size not_move not_shift not_hold not_free not_remove not_guide not_layout not_where = absurd (not_oval refl)
-not_built keyword.Diamond not_box not_oval not_diamond not_size not_move not_shift not_hold not_free not_remove not_guide not_layout not_where = absurd (not_diamond refl)
-not_built keyword.Size not_box not_oval not_diamond not_size not_move not_shift not_hold not_free not_remove not_guide not_layout not_where = absurd (not_size refl)
-not_built keyword.Move not_box not_oval not_diamond not_size not_move not_shift not_hold not_free not_remove not_guide not_layout not_where = absurd (not_move refl)
-not_built keyword.Shift not_box not_oval not_diamond not_size not_move not_shift not_hold not_free not_remove not_guide not_layout not_where = absurd (not_shift refl)
-not_built keyword.Hold not_box not_oval not_diamond not_size not_move not_shift not_hold not_free not_remove not_guide not_layout not_where = absurd (not_hold refl)
-not_built keyword.Free not_box not_oval not_diamond not_size not_move not_shift not_hold not_free not_remove not_guide not_layout not_where = absurd (not_free refl)
-not_built keyword.Remove not_box not_oval not_diamond not_size not_move not_shift not_hold not_free not_remove not_guide not_layout not_where = absurd (not_remove refl)
-not_built keyword.Guide not_box not_oval not_diamond not_size not_move not_shift not_hold not_free not_remove not_guide not_layout not_where = absurd (not_guide refl)
-not_built keyword.Layout not_box not_oval not_diamond not_size not_move not_shift not_hold not_free not_remove not_guide not_layout not_where = absurd (not_layout refl)
-not_built keyword.Where not_box not_oval not_diamond not_size not_move not_shift not_hold not_free not_remove not_guide not_layout not_where = absurd (not_where refl)
-not_built _ not_box not_oval not_diamond not_size not_move not_shift not_hold not_free not_remove not_guide not_layout not_where = refl

@@ -5,6 +5,8 @@ ghost use Rattle.script_text.specs.Keywords.{is_built};
 ghost use Rattle.script_text.specs.Grammar.{put_slots, pair_slots, shift_slots, guide_slots, name_slots, axis_word};
 ghost use Rattle.script_text.specs.Reading.{field_at, ends_at, fields_at, parts, command_by, command_at};
 ghost use Rattle.script_text.specs.declared.keywords.Keyword.TheVariants as keyword;
+ghost use Rattle.script_text.specs.declared.scripts.Command.TheVariants as commands;
+ghost use Rattle.script_text.specs.declared.faults.FaultKind.TheVariants as kind;
 ghost use Rattle.script_text.specs.declared.slots.Slot.TheVariants as slot;
 ghost use Rattle.script_text.specs.declared.slots.Choice.TheVariants as choice;
 
@@ -125,6 +127,38 @@ fn one_name(words: &mut Pieces<'_>) -> Option<Name>
     Some(name)
 }
 
+fn hold(words: &mut Pieces<'_>) -> Option<Edit>
+    ensures { MatchOption result (fields_at name_slots words.old ≡ None)
+        (λ e. (edit_keyword e ≡ keyword.Hold) × (fields_at name_slots words.old ≡ Some (edit_fields e))) }
+{
+    let name = one_name(words)?;
+    Some(Edit::Hold { name })
+}
+
+fn free(words: &mut Pieces<'_>) -> Option<Edit>
+    ensures { MatchOption result (fields_at name_slots words.old ≡ None)
+        (λ e. (edit_keyword e ≡ keyword.Free) × (fields_at name_slots words.old ≡ Some (edit_fields e))) }
+{
+    let name = one_name(words)?;
+    Some(Edit::Free { name })
+}
+
+fn remove(words: &mut Pieces<'_>) -> Option<Edit>
+    ensures { MatchOption result (fields_at name_slots words.old ≡ None)
+        (λ e. (edit_keyword e ≡ keyword.Remove) × (fields_at name_slots words.old ≡ Some (edit_fields e))) }
+{
+    let name = one_name(words)?;
+    Some(Edit::Remove { name })
+}
+
+/// The command of the edit whose fields were read.
+fn edit_command(edit: Option<Edit>) -> Result<Command, FaultKind>
+    ensures { MatchOption edit (result ≡ Err kind.Fields) (λ e. result ≡ Ok (commands.Edit e)) }
+{
+    let edit = edit.ok_or(FaultKind::Fields)?;
+    Ok(Command::Edit(edit))
+}
+
 /// The fault of a command that isn't built: that, or its fields.
 fn unbuilt(keyword: Keyword, words: &mut Pieces<'_>) -> FaultKind
     requires { is_built keyword ≡ false }
@@ -144,46 +178,16 @@ pub fn command(words: &mut Pieces<'_>) -> Result<Command, FaultKind>
     let word = words.next().ok_or(FaultKind::Command)?;
     let keyword = read_keyword(word).ok_or(FaultKind::Command)?;
     match keyword {
-        Keyword::Box => {
-            let edit = put(Form::Box, words).ok_or(FaultKind::Fields)?;
-            Ok(Command::Edit(edit))
-        }
-        Keyword::Oval => {
-            let edit = put(Form::Oval, words).ok_or(FaultKind::Fields)?;
-            Ok(Command::Edit(edit))
-        }
-        Keyword::Diamond => {
-            let edit = put(Form::Diamond, words).ok_or(FaultKind::Fields)?;
-            Ok(Command::Edit(edit))
-        }
-        Keyword::Size => {
-            let edit = size(words).ok_or(FaultKind::Fields)?;
-            Ok(Command::Edit(edit))
-        }
-        Keyword::Move => {
-            let edit = corner(words).ok_or(FaultKind::Fields)?;
-            Ok(Command::Edit(edit))
-        }
-        Keyword::Shift => {
-            let edit = shift(words).ok_or(FaultKind::Fields)?;
-            Ok(Command::Edit(edit))
-        }
-        Keyword::Hold => {
-            let name = one_name(words).ok_or(FaultKind::Fields)?;
-            Ok(Command::Edit(Edit::Hold { name }))
-        }
-        Keyword::Free => {
-            let name = one_name(words).ok_or(FaultKind::Fields)?;
-            Ok(Command::Edit(Edit::Free { name }))
-        }
-        Keyword::Remove => {
-            let name = one_name(words).ok_or(FaultKind::Fields)?;
-            Ok(Command::Edit(Edit::Remove { name }))
-        }
-        Keyword::Guide => {
-            let edit = guide(words).ok_or(FaultKind::Fields)?;
-            Ok(Command::Edit(edit))
-        }
+        Keyword::Box => edit_command(put(Form::Box, words)),
+        Keyword::Oval => edit_command(put(Form::Oval, words)),
+        Keyword::Diamond => edit_command(put(Form::Diamond, words)),
+        Keyword::Size => edit_command(size(words)),
+        Keyword::Move => edit_command(corner(words)),
+        Keyword::Shift => edit_command(shift(words)),
+        Keyword::Hold => edit_command(hold(words)),
+        Keyword::Free => edit_command(free(words)),
+        Keyword::Remove => edit_command(remove(words)),
+        Keyword::Guide => edit_command(guide(words)),
         Keyword::Layout => {
             end(words).ok_or(FaultKind::Fields)?;
             Ok(Command::Layout)
@@ -192,6 +196,15 @@ pub fn command(words: &mut Pieces<'_>) -> Result<Command, FaultKind>
             let name = one_name(words).ok_or(FaultKind::Fields)?;
             Ok(Command::Where(name))
         }
-        other => Err(unbuilt(other, words)),
+        Keyword::Link
+        | Keyword::Unlink
+        | Keyword::Align
+        | Keyword::Spread
+        | Keyword::Rank
+        | Keyword::Apart
+        | Keyword::Group
+        | Keyword::Page
+        | Keyword::Drop
+        | Keyword::Undo => Err(unbuilt(keyword, words)),
     }
 }

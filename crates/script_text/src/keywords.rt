@@ -122,21 +122,30 @@ pub fn edit_keyword(edit: &Edit) -> Keyword
 fn is_built(keyword: Keyword) -> bool
     ensures { result ≡ is_built keyword }
 {
-    matches!(
-        keyword,
+    match keyword {
         Keyword::Box
-            | Keyword::Oval
-            | Keyword::Diamond
-            | Keyword::Size
-            | Keyword::Move
-            | Keyword::Shift
-            | Keyword::Hold
-            | Keyword::Free
-            | Keyword::Remove
-            | Keyword::Guide
-            | Keyword::Layout
-            | Keyword::Where
-    )
+        | Keyword::Oval
+        | Keyword::Diamond
+        | Keyword::Size
+        | Keyword::Move
+        | Keyword::Shift
+        | Keyword::Hold
+        | Keyword::Free
+        | Keyword::Remove
+        | Keyword::Guide
+        | Keyword::Layout
+        | Keyword::Where => true,
+        Keyword::Link
+        | Keyword::Unlink
+        | Keyword::Align
+        | Keyword::Spread
+        | Keyword::Rank
+        | Keyword::Apart
+        | Keyword::Group
+        | Keyword::Page
+        | Keyword::Drop
+        | Keyword::Undo => false,
+    }
 }
 
 /// Whether the program has the command of the edit yet: a script has an edit only where it does.

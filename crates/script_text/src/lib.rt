@@ -2,17 +2,17 @@
 #![tactic(auto)]
 
 mod choices;
-pub mod faults;
+mod faults;
 mod fields;
 mod fitting;
-pub mod keywords;
+mod keywords;
 mod lines;
 mod numbers;
 mod pieces;
-pub mod printing;
-pub mod reading;
-pub mod scripts;
-pub mod slots;
+mod printing;
+mod reading;
+mod scripts;
+mod slots;
 
 pub use faults::{FaultKind, ReadFault, ScriptFault};
 pub use keywords::is_built_edit;

@@ -1,12 +1,11 @@
 //! Reading command lines.
-ghost use Rattle.std.specs.Prelude.{◌≡◌, ◌+◌, ◌≤◌, Ok, Err, MatchResult, OnOk, IfErr, ◌++◌, ◌∷◌, []};
+ghost use Rattle.std.specs.Prelude.{◌≡◌, ◌+◌, ◌≤◌, Ok, Err, MatchResult};
 ghost use Rattle.script_text.specs.Reading.{line_at, line_parts};
-ghost use Rattle.script_text.specs.declared.faults.ReadFault.TheVariants as cause;
 
-use crate::faults::{FaultKind, ReadFault};
+use crate::faults::FaultKind;
 use crate::fields::command;
 use crate::pieces::Pieces;
-use crate::scripts::{Command, Line};
+use crate::scripts::Line;
 
 /// The most bytes of a line, without its LF.
 const LONGEST: usize = 2048;
@@ -38,35 +37,4 @@ pub fn line(before: usize, bytes: &[u8]) -> Result<Line, FaultKind>
         session: bytes[0] - b'0',
         command,
     })
-}
-
-/// Adds a line at the end.
-pub fn add(lines: &mut Vec<Line>, line: Line) -> Result<(), ReadFault>
-    ensures added { OnOk result (lines.new.items ≡ lines.old.items ++ line ∷ []) }
-    ensures memory { IfErr result (λ e. e ≡ cause.Memory) }
-{
-    // Taken apart and put together: the check knows the parts of a `Line` only where it sees them.
-    let Line {
-        number,
-        session,
-        command,
-    } = line;
-    match command {
-        Command::Edit(edit) => lines.push(Line {
-            number,
-            session,
-            command: Command::Edit(edit),
-        })?,
-        Command::Layout => lines.push(Line {
-            number,
-            session,
-            command: Command::Layout,
-        })?,
-        Command::Where(name) => lines.push(Line {
-            number,
-            session,
-            command: Command::Where(name),
-        })?,
-    }
-    Ok(())
 }

@@ -9,7 +9,7 @@ ghost use Rattle.script_text.specs.declared.faults.ScriptFault.{ScriptFault as F
 ghost use Rattle.script_text.specs.declared.faults.ReadFault.TheVariants as cause;
 
 use crate::faults::{FaultKind, ReadFault, ScriptFault};
-use crate::lines::{add, line};
+use crate::lines::line;
 use crate::pieces::Pieces;
 use crate::scripts::{Line, Script};
 use std::alloc::Global;
@@ -66,7 +66,7 @@ fn commands(alloc: Global, lines: &mut Pieces<'_>) -> Result<Vec<Line>, ReadFaul
             Ok(line) => line,
             Err(kind) => return Err(fault(before + 2, kind)),
         };
-        add(&mut script, line)?;
+        script.push(line)?;
     }
     Err(fault(1, FaultKind::Missing))
 }

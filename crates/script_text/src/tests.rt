@@ -8,15 +8,23 @@ use std::alloc::Global;
 use std::test::Fail;
 use units::{Axis, Members, Name};
 
-fn first_box() -> Option<Edit> {
-    Some(Edit::Put {
-        name: Name::of(b"a")?,
-        form: Form::Box,
-        x: 3,
-        y: 4,
-        w: 40,
-        h: 20,
-    })
+/// The lines of a block, each with its LF, without what indents them.
+fn lines_of(alloc: Global, block: &str) -> Result<Vec<u8>, Fail> {
+    let mut text = Vec::new(alloc);
+    for line in block.lines() {
+        text.extend_from_slice(line.trim_start().as_bytes())?;
+        text.push(b'\n')?;
+    }
+    Ok(text)
+}
+
+/// How many lines are read.
+fn count(alloc: Global, bytes: &[u8]) -> Result<usize, ReadFault> {
+    Ok(read(alloc, bytes)?.lines().len())
+}
+
+fn fault(line: u32, kind: FaultKind) -> ReadFault {
+    ReadFault::Fault(ScriptFault { line, kind })
 }
 
 fn line(number: u32, command: Command) -> Line {
@@ -27,70 +35,100 @@ fn line(number: u32, command: Command) -> Line {
     }
 }
 
-/// How many lines are read.
-fn count(alloc: Global, bytes: &[u8]) -> Result<usize, ReadFault> {
-    Ok(read(alloc, bytes)?.lines().len())
-}
-
 #[test]
-fn scripts_are_read(rt: HostRuntime) -> Result<(), Fail> {
-    let text =
-        "dunnart 1\n1 box a 3 4 40 20\n1 guide g y -200\n1 shift g 7\n1 where g\n1 layout\nend\n";
-    let script = read(rt.alloc(), text.as_bytes()).ok().ok_or("a script")?;
+fn lines_are_read(rt: HostRuntime) -> Result<(), Fail> {
+    let bytes = lines_of(
+        rt.alloc(),
+        "dunnart 1
+        1 oval a 3 4 40 20
+        1 guide g y -200
+        1 shift g 7
+        1 where g
+        1 layout
+        end",
+    )?;
+    let script = read(rt.alloc(), &bytes).ok().ok_or("a script")?;
+    let a = Name::of(b"a").ok_or("a name")?;
     let name = Name::of(b"g").ok_or("a name")?;
+    let put = Edit::Put {
+        name: a,
+        form: Form::Oval,
+        x: 3,
+        y: 4,
+        w: 40,
+        h: 20,
+    };
     let guide = Edit::Guide {
         name,
         axis: Axis::Y,
         at: -200,
     };
     let lines = [
-        line(2, Command::Edit(first_box().ok_or("a box")?)),
+        line(2, Command::Edit(put)),
         line(3, Command::Edit(guide)),
         line(4, Command::Edit(Edit::Shift { name, at: 7 })),
         line(5, Command::Where(name)),
         line(6, Command::Layout),
     ];
     assert_eq!(rt; script.lines(), lines.as_slice());
-    for (text, lines) in [
-        ("dunnart 1\nend\n", 0),
-        ("dunnart 1\n1 layout\nend\n", 1),
-        (
-            "dunnart 1\n1 oval a 0 0 10 10\n8 diamond b -5 0 10 10\nend\n",
-            2,
-        ),
-        ("dunnart 1\n2 size a 10 999999999\n3 move a 0 -1\nend\n", 2),
-        ("dunnart 1\n4 hold a\n5 free a\n6 remove a\nend\n", 3),
-        (
-            "dunnart 1\n1 guide g x 0\n2 shift g -5\n3 where g\nend\n",
-            3,
-        ),
-        ("dunnart 1\n1 box b_2 -999999999 0 999999999 1\nend\n", 1),
-        (
-            "dunnart 1\n1 box a23456789012345678901234 1 1 1 1\nend\n",
-            1,
-        ),
-    ] {
-        assert_eq!(rt; count(rt.alloc(), text.as_bytes()), Ok(lines), "{text}");
-    }
     Ok(())
+}
+
+/// The bytes of the script that these bytes spell, printed.
+fn printed(alloc: Global, bytes: &[u8]) -> Result<Vec<u8>, Fail> {
+    let script = read(alloc, bytes).ok().ok_or("a script")?;
+    Ok(print(alloc, &script)?)
 }
 
 #[test]
-fn scripts_are_printed(rt: HostRuntime) -> Result<(), Fail> {
-    for text in [
-        "dunnart 1\nend\n",
-        "dunnart 1\n1 box a 3 4 40 20\n1 layout\n1 layout\nend\n",
-        "dunnart 1\n1 guide g x 200\n8 shift g -5\n1 where g\nend\n",
+fn scripts_are_read_and_printed(rt: HostRuntime) -> Result<(), Fail> {
+    for (block, lines) in [
+        (
+            "dunnart 1
+            end",
+            0,
+        ),
+        (
+            "dunnart 1
+            1 box a 3 4 40 20
+            1 layout
+            1 layout
+            end",
+            3,
+        ),
+        (
+            "dunnart 1
+            1 oval a 0 0 10 10
+            8 diamond b -5 0 10 10
+            2 size a 10 999999999
+            3 move a 0 -1
+            end",
+            4,
+        ),
+        (
+            "dunnart 1
+            4 hold a
+            5 free a
+            6 remove a
+            1 guide g x 0
+            2 shift g -5
+            3 where g
+            end",
+            6,
+        ),
+        (
+            "dunnart 1
+            1 box b_2 -999999999 0 999999999 1
+            1 box a23456789012345678901234 1 1 1 1
+            end",
+            2,
+        ),
     ] {
-        let script = read(rt.alloc(), text.as_bytes()).ok().ok_or("a script")?;
-        let bytes = print(rt.alloc(), &script)?;
-        assert_eq!(rt; bytes.as_slice(), text.as_bytes());
+        let bytes = lines_of(rt.alloc(), block)?;
+        assert_eq!(rt; count(rt.alloc(), &bytes), Ok(lines), "{block}");
+        assert_eq!(rt; printed(rt.alloc(), &bytes)?, bytes, "{block}");
     }
     Ok(())
-}
-
-fn fault(line: u32, kind: FaultKind) -> ReadFault {
-    ReadFault::Fault(ScriptFault { line, kind })
 }
 
 #[test]
@@ -104,62 +142,24 @@ fn faults_have_lines_and_kinds(rt: HostRuntime) -> Result<(), Fail> {
         ("dunnart 1\n", 2, FaultKind::Missing),
         ("dunnart 1\nend", 2, FaultKind::Cut),
         ("dunnart 1\n1 box a 0", 2, FaultKind::Cut),
-        ("dunnart 1\n1 layout\n", 3, FaultKind::Missing),
         ("dunnart 1\n1 layout", 2, FaultKind::Cut),
+        ("dunnart 1\n1 layout\n", 3, FaultKind::Missing),
         ("dunnart 1\n1 layout\nEnd\n", 3, FaultKind::Session),
-        ("dunnart 1\n1 layout\nend\n\n", 4, FaultKind::After),
-        ("dunnart 1\n1 layout\nend\n1 layout\n", 4, FaultKind::After),
+        ("dunnart 1\n\nend\n", 2, FaultKind::Session),
         ("dunnart 1\nend\nx", 3, FaultKind::After),
-        ("dunnart 1\n\n1 layout\nend\n", 2, FaultKind::Session),
-        ("dunnart 1\n0 layout\nend\n", 2, FaultKind::Session),
-        ("dunnart 1\n9 layout\nend\n", 2, FaultKind::Session),
-        ("dunnart 1\n11 layout\nend\n", 2, FaultKind::Session),
-        ("dunnart 1\n1\nend\n", 2, FaultKind::Session),
-        ("dunnart 1\n 1 layout\nend\n", 2, FaultKind::Session),
-        ("dunnart 1\n1 \nend\n", 2, FaultKind::Command),
-        ("dunnart 1\n1  layout\nend\n", 2, FaultKind::Command),
-        ("dunnart 1\n1 bax a 3 4 40 20\nend\n", 2, FaultKind::Command),
-        ("dunnart 1\n1 Box a 0 0 10 10\nend\n", 2, FaultKind::Command),
-        ("dunnart 1\n1 undo\nend\n", 2, FaultKind::NotYet),
+        ("dunnart 1\n1 layout\nend\n\n", 4, FaultKind::After),
+        ("dunnart 1\nend\n1 layout\n", 3, FaultKind::After),
         ("dunnart 1\n1 layout\n1 undo\nend\n", 3, FaultKind::NotYet),
     ] {
-        assert_eq!(rt;
-            count(rt.alloc(), text.as_bytes()),
-            Err(fault(line, kind)),
-            "{text}"
-        );
+        let answer = count(rt.alloc(), text.as_bytes());
+        assert_eq!(rt; answer, Err(fault(line, kind)), "{text}");
     }
     Ok(())
 }
 
-#[test]
-fn fields_are_refused(rt: HostRuntime) -> Result<(), Fail> {
-    for text in [
-        "dunnart 1\n1 layout \nend\n",
-        "dunnart 1\n1 box a 3 4 40 20 \nend\n",
-        "dunnart 1\n1 box a 3 4 40\nend\n",
-        "dunnart 1\n1 box a 3 4 40 20 7\nend\n",
-        "dunnart 1\n1 box a 3  4 40 20\nend\n",
-        "dunnart 1\n1 box a 3\t4 40 20\nend\n",
-        "dunnart 1\n1 box a -0 4 40 20\nend\n",
-        "dunnart 1\n1 box a 03 4 40 20\nend\n",
-        "dunnart 1\n1 box a +3 4 40 20\nend\n",
-        "dunnart 1\n1 box a 1234567890 4 40 20\nend\n",
-        "dunnart 1\n1 box a234567890123456789012345 3 4 40 20\nend\n",
-        "dunnart 1\n1 box 2a 3 4 40 20\nend\n",
-    ] {
-        assert_eq!(rt;
-            count(rt.alloc(), text.as_bytes()),
-            Err(fault(2, FaultKind::Fields)),
-            "{text}"
-        );
-    }
-    Ok(())
-}
-
-/// The kind of the fault of a script whose first command is this one; None where there is no fault.
-fn kind_of(alloc: Global, command: &str) -> Result<Option<FaultKind>, Fail> {
-    let text = format!(in alloc; "dunnart 1\n1 {command}\nend\n")?;
+/// The kind of the fault of a script with this one command line, in that line; None where it is read.
+fn kind_of(alloc: Global, line: &str) -> Result<Option<FaultKind>, Fail> {
+    let text = format!(in alloc; "dunnart 1\n{line}\nend\n")?;
     match read(alloc, text.as_bytes()) {
         Ok(_) => Ok(None),
         Err(ReadFault::Fault(ScriptFault { line: 2, kind })) => Ok(Some(kind)),
@@ -168,73 +168,80 @@ fn kind_of(alloc: Global, command: &str) -> Result<Option<FaultKind>, Fail> {
 }
 
 #[test]
-fn commands_that_are_not_built(rt: HostRuntime) -> Result<(), Fail> {
-    for command in [
-        "link l a b",
-        "unlink l",
-        "align c g low a",
-        "align c g mid a b",
-        "align c g high a b c",
-        "spread s y 80 a",
-        "rank r x 0 a b c",
-        "apart s x a b 20 least",
-        "apart s y a b -20 exact",
-        "group g 15 a b",
-        "page p 0 0 600 800 20 soft",
-        "page p 0 0 600 800 20 rigid",
-        "drop c",
-        "undo",
+fn lines_are_refused(rt: HostRuntime) -> Result<(), Fail> {
+    for (line, kind) in [
+        ("0 layout", FaultKind::Session),
+        ("9 layout", FaultKind::Session),
+        ("11 layout", FaultKind::Session),
+        ("1", FaultKind::Session),
+        (" 1 layout", FaultKind::Session),
+        ("1 ", FaultKind::Command),
+        ("1  layout", FaultKind::Command),
+        ("1 bax a 3 4 40 20", FaultKind::Command),
+        ("1 Box a 0 0 10 10", FaultKind::Command),
+        ("1 link l a b", FaultKind::NotYet),
+        ("1 unlink l", FaultKind::NotYet),
+        ("1 align c g low a", FaultKind::NotYet),
+        ("1 align c g mid a b", FaultKind::NotYet),
+        ("1 align c g high a b c", FaultKind::NotYet),
+        ("1 spread s y 80 a", FaultKind::NotYet),
+        ("1 rank r x 0 a b c", FaultKind::NotYet),
+        ("1 apart s x a b 20 least", FaultKind::NotYet),
+        ("1 apart s y a b -20 exact", FaultKind::NotYet),
+        ("1 group g 15 a b", FaultKind::NotYet),
+        ("1 page p 0 0 600 800 20 soft", FaultKind::NotYet),
+        ("1 page p 0 0 600 800 20 rigid", FaultKind::NotYet),
+        ("1 drop c", FaultKind::NotYet),
+        ("1 undo", FaultKind::NotYet),
+        ("1 layout ", FaultKind::Fields),
+        ("1 box a 3 4 40 20 ", FaultKind::Fields),
+        ("1 box a 3 4 40", FaultKind::Fields),
+        ("1 box a 3 4 40 20 7", FaultKind::Fields),
+        ("1 box a 3  4 40 20", FaultKind::Fields),
+        ("1 box a 3\t4 40 20", FaultKind::Fields),
+        ("1 box a -0 4 40 20", FaultKind::Fields),
+        ("1 box a 03 4 40 20", FaultKind::Fields),
+        ("1 box a +3 4 40 20", FaultKind::Fields),
+        ("1 box a 1234567890 4 40 20", FaultKind::Fields),
+        (
+            "1 box a234567890123456789012345 3 4 40 20",
+            FaultKind::Fields,
+        ),
+        ("1 box 2a 3 4 40 20", FaultKind::Fields),
+        ("1 oval a 0 0 10", FaultKind::Fields),
+        ("1 diamond a 0 0 10 10 10", FaultKind::Fields),
+        ("1 size a 10", FaultKind::Fields),
+        ("1 move a 0 -0", FaultKind::Fields),
+        ("1 shift g 01", FaultKind::Fields),
+        ("1 shift g", FaultKind::Fields),
+        ("1 shift g x 5", FaultKind::Fields),
+        ("1 hold", FaultKind::Fields),
+        ("1 free 2a", FaultKind::Fields),
+        ("1 remove a b", FaultKind::Fields),
+        ("1 link l a", FaultKind::Fields),
+        ("1 unlink ", FaultKind::Fields),
+        ("1 guide g z 200", FaultKind::Fields),
+        ("1 guide g X 200", FaultKind::Fields),
+        ("1 guide g 200 x", FaultKind::Fields),
+        ("1 guide g x", FaultKind::Fields),
+        ("1 guide g x 200 1", FaultKind::Fields),
+        ("1 align c g middle a", FaultKind::Fields),
+        ("1 align c g mid", FaultKind::Fields),
+        ("1 align c g mid a  b", FaultKind::Fields),
+        ("1 spread s y 80", FaultKind::Fields),
+        ("1 rank r x 0 a 1", FaultKind::Fields),
+        ("1 apart s x a b 20", FaultKind::Fields),
+        ("1 apart s x a b 20 least b", FaultKind::Fields),
+        ("1 group g a b", FaultKind::Fields),
+        ("1 page p 0 0 600 800 20 hard", FaultKind::Fields),
+        ("1 drop -", FaultKind::Fields),
+        ("1 undo a", FaultKind::Fields),
+        ("1 undo ", FaultKind::Fields),
+        ("1 where", FaultKind::Fields),
+        ("1 where 2a", FaultKind::Fields),
+        ("1 where a b", FaultKind::Fields),
     ] {
-        assert_eq!(rt;
-            kind_of(rt.alloc(), command)?,
-            Some(FaultKind::NotYet),
-            "{command}"
-        );
-    }
-    Ok(())
-}
-
-#[test]
-fn fields_of_other_commands(rt: HostRuntime) -> Result<(), Fail> {
-    for command in [
-        "oval a 0 0 10",
-        "diamond a 0 0 10 10 10",
-        "size a 10",
-        "move a 0 -0",
-        "shift g 01",
-        "shift g",
-        "shift g x 5",
-        "hold",
-        "free 2a",
-        "remove a b",
-        "link l a",
-        "unlink ",
-        "guide g z 200",
-        "guide g X 200",
-        "guide g 200 x",
-        "guide g x",
-        "guide g x 200 1",
-        "align c g middle a",
-        "align c g mid",
-        "align c g mid a  b",
-        "spread s y 80",
-        "rank r x 0 a 1",
-        "apart s x a b 20",
-        "apart s x a b 20 least b",
-        "group g a b",
-        "page p 0 0 600 800 20 hard",
-        "drop -",
-        "undo a",
-        "undo ",
-        "where",
-        "where 2a",
-        "where a b",
-    ] {
-        assert_eq!(rt;
-            kind_of(rt.alloc(), command)?,
-            Some(FaultKind::Fields),
-            "{command}"
-        );
+        assert_eq!(rt; kind_of(rt.alloc(), line)?, Some(kind), "{line}");
     }
     Ok(())
 }
@@ -294,12 +301,9 @@ fn put(name: Name, form: Form) -> Command {
 }
 
 #[test]
-fn commands_have_texts(rt: HostRuntime) -> Result<(), Fail> {
+fn commands_on_an_item_have_texts(rt: HostRuntime) -> Result<(), Fail> {
+    let alloc = rt.alloc();
     let name = Name::of(b"b_2").ok_or("a name")?;
-    let (a, b) = (
-        Name::of(b"a").ok_or("a name")?,
-        Name::of(b"B").ok_or("a name")?,
-    );
     let commands = [
         put(name, Form::Box),
         put(name, Form::Oval),
@@ -310,16 +314,30 @@ fn commands_have_texts(rt: HostRuntime) -> Result<(), Fail> {
         Command::Edit(Edit::Hold { name }),
         Command::Edit(Edit::Free { name }),
         Command::Edit(Edit::Remove { name }),
-        Command::Edit(Edit::Join { name, a, b }),
         Command::Edit(Edit::Unlink { name }),
+        Command::Edit(Edit::Drop { name }),
         Command::Layout,
         Command::Where(name),
     ];
-    let text =
-        "box b_2 -1000000 0 10000 1\noval b_2 -1000000 0 10000 1\ndiamond b_2 -1000000 0 10000 1\n\
-        size b_2 7 -8\nmove b_2 -7 8\nshift b_2 -5\nhold b_2\nfree b_2\nremove b_2\nlink b_2 a B\n\
-        unlink b_2\nlayout\nwhere b_2\n";
-    assert_eq!(rt; texts(rt.alloc(), &commands)?.as_slice(), text.as_bytes());
+    let wanted = lines_of(
+        alloc,
+        "box b_2 -1000000 0 10000 1
+        oval b_2 -1000000 0 10000 1
+        diamond b_2 -1000000 0 10000 1
+        size b_2 7 -8
+        move b_2 -7 8
+        shift b_2 -5
+        hold b_2
+        free b_2
+        remove b_2
+        unlink b_2
+        drop b_2
+        layout
+        where b_2",
+    )?;
+    assert_eq!(rt; texts(alloc, &commands)?, wanted);
+    assert!(rt; is_built_edit(&Edit::Hold { name }));
+    assert!(rt; !is_built_edit(&Edit::Drop { name }));
     Ok(())
 }
 
@@ -409,14 +427,23 @@ fn commands_on_several_items_have_texts(rt: HostRuntime) -> Result<(), Fail> {
         }),
         page(name, false),
         page(name, true),
-        Command::Edit(Edit::Drop { name }),
+        Command::Edit(Edit::Join { name, a, b }),
     ];
-    let text =
-        "guide c x 200\nalign c a low a B\nalign c a mid a B\nalign c a high a B\nspread c y 80 a B\n\
-        rank c x -1 a B\napart c x a B 20 least\napart c y a B -20 exact\ngroup c 15 a B\n\
-        page c 1 2 600 800 20 soft\npage c 1 2 600 800 20 rigid\ndrop c\n";
-    assert_eq!(rt; texts(alloc, &commands)?.as_slice(), text.as_bytes());
-    assert!(rt; is_built_edit(&Edit::Hold { name }));
-    assert!(rt; !is_built_edit(&Edit::Drop { name }));
+    let wanted = lines_of(
+        alloc,
+        "guide c x 200
+        align c a low a B
+        align c a mid a B
+        align c a high a B
+        spread c y 80 a B
+        rank c x -1 a B
+        apart c x a B 20 least
+        apart c y a B -20 exact
+        group c 15 a B
+        page c 1 2 600 800 20 soft
+        page c 1 2 600 800 20 rigid
+        link c a B",
+    )?;
+    assert_eq!(rt; texts(alloc, &commands)?, wanted);
     Ok(())
 }
