@@ -55,7 +55,7 @@ impl Scene {
         ensures back { with_thing_at self.new result.0 result.1 ≡ self.old }
     {
         let item = self.lookup(name).unwrap();
-        // For the proof: brings the bounds of the scene.
+        // Asked for what its type keeps, which the proof needs.
         let _count = self.count(item.sort);
         let thing = self.take_at(item);
         (item.at, thing)

@@ -14,7 +14,7 @@ pub use items::{
     AlignLine, Compound, Form, Group, Guide, Item, Link, Page, Rule, Shape, Sort, Thing,
 };
 pub use scene::Scene;
-pub use uses::{is_among, Wanted};
+pub use uses::{Wanted, is_among};
 pub use variables::{Variable, VariableName};
 
 #[cfg(test)]
