@@ -1,7 +1,7 @@
 //! What no clause says: that with ample memory the list is made.
 ghost use Rattle.scene_model.specs.Sound.{IsCoordinate};
 
-use crate::compile;
+use crate::{compile, count};
 use scene_model::{Compound, Form, Rule, Scene, Shape, Sort, Thing, Wanted};
 use std::alloc::Global;
 use std::test::Fail;
@@ -71,8 +71,11 @@ fn add_two_apart(scene: &mut Scene) -> Result<(), Fail> {
     add_apart(scene, named(b"s")?, a, b)
 }
 
-/// Whether the list of X has just the separation of the compound.
-fn has_one(scene: &Scene, alloc: Global) -> Result<(), Fail> {
+/// The list of X has just the separation between a and b.
+fn is_listed(scene: &Scene, alloc: Global) -> Result<(), Fail> {
+    if count(scene, Axis::X) != 1 {
+        return Err("one separation".into());
+    }
     let list = compile(alloc, scene, Axis::X)?;
     let wanted = Sep {
         left: 0,
@@ -80,7 +83,7 @@ fn has_one(scene: &Scene, alloc: Global) -> Result<(), Fail> {
         gap: 20,
         exact: false,
     };
-    if list.as_slice() != [wanted] {
+    if list.as_slice() != [wanted].as_slice() {
         return Err("b behind a".into());
     }
     Ok(())
@@ -90,5 +93,5 @@ fn has_one(scene: &Scene, alloc: Global) -> Result<(), Fail> {
 fn separations_of_two_apart(rt: HostRuntime) -> Result<(), Fail> {
     let mut scene = Scene::empty(rt.alloc());
     add_two_apart(&mut scene)?;
-    has_one(&scene, rt.alloc())
+    is_listed(&scene, rt.alloc())
 }
