@@ -1,4 +1,4 @@
-use Rattle.std.proofs.Common.{◌≡◌, ◌<◌, ℕ, ◌∙◌, length, sym, subst}
+use Rattle.std.proofs.Common.{◌≡◌, ◌<◌, ℕ, ◌∙◌, length, subst}
 use Rattle.std.specs.Prelude.{IfSome}
 use Rattle.keyword_table.specs.Spellings.{spellings}
 use Rattle.keyword_table.proofs.Rows.{finds_row, length-spellings}
