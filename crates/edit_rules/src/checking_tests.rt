@@ -1,128 +1,13 @@
 //! Each refusal of a scene, for different edits, and that the first cause is told.
-use crate::{Counted, Edit, Refusal, apply, check, has_moves_left};
-use scene_model::{AlignLine, Form, Scene};
+use crate::test_edits::{
+    accepted, align, apart, expect, group, guide, join, limit, members, name, numbered, page, put,
+    rank, refuses,
+};
+use crate::{Counted, Edit, Refusal};
+use scene_model::Scene;
 use std::alloc::Global;
 use std::test::Fail;
-use units::{Axis, Members, Memory, Name};
-
-pub fn name(text: &[u8]) -> Result<Name, Fail> {
-    Ok(Name::of(text).ok_or("a name")?)
-}
-
-pub fn members(alloc: Global, names: &[Name]) -> Result<Members, Fail> {
-    Ok(Members::of(Vec::from_slice(alloc, names)?).ok_or("members")?)
-}
-
-/// A box of this name at (x, y), so wide and so high.
-pub fn put(name: Name, x: i32, y: i32, w: i32, h: i32) -> Edit {
-    Edit::Put {
-        name,
-        form: Form::Box,
-        x,
-        y,
-        w,
-        h,
-    }
-}
-
-pub fn guide(name: Name, axis: Axis, at: i32) -> Edit {
-    Edit::Guide { name, axis, at }
-}
-
-pub fn join(name: Name, a: Name, b: Name) -> Edit {
-    Edit::Join { name, a, b }
-}
-
-pub fn align(name: Name, guide: Name, members: Members) -> Edit {
-    Edit::Align {
-        name,
-        guide,
-        line: AlignLine::Mid,
-        members,
-    }
-}
-
-pub fn apart(name: Name, axis: Axis, a: Name, b: Name, gap: i32) -> Edit {
-    Edit::Apart {
-        name,
-        axis,
-        a,
-        b,
-        gap,
-        exact: true,
-    }
-}
-
-pub fn spread(name: Name, axis: Axis, gap: i32, members: Members) -> Edit {
-    Edit::Spread {
-        name,
-        axis,
-        gap,
-        members,
-    }
-}
-
-pub fn rank(name: Name, axis: Axis, gap: i32, members: Members) -> Edit {
-    Edit::Rank {
-        name,
-        axis,
-        gap,
-        members,
-    }
-}
-
-pub fn group(name: Name, pad: i32, members: Members) -> Edit {
-    Edit::Group { name, pad, members }
-}
-
-pub fn page(name: Name, x: i32, y: i32, w: i32, h: i32, margin: i32) -> Edit {
-    Edit::Page {
-        name,
-        x,
-        y,
-        w,
-        h,
-        margin,
-        rigid: false,
-    }
-}
-
-/// Why the edit is refused, or None after it was applied.
-fn play(scene: &mut Scene, edit: Edit) -> Result<Option<Refusal>, Memory> {
-    if let Err(refusal) = check(scene, &edit) {
-        return Ok(Some(refusal));
-    }
-    if !has_moves_left(scene, &edit) {
-        return Err(Memory);
-    }
-    apply(scene, edit)?;
-    Ok(None)
-}
-
-/// Applies an edit that the scene accepts.
-pub fn accepted(scene: &mut Scene, edit: Edit) -> Result<(), Fail> {
-    if play(scene, edit)?.is_some() {
-        return Err("accepted".into());
-    }
-    Ok(())
-}
-
-/// Fails with this word where it doesn't hold.
-pub fn expect(holds: bool, word: &str) -> Result<(), Fail> {
-    if !holds {
-        return Err(word.into());
-    }
-    Ok(())
-}
-
-/// Whether the scene refuses the edit for this cause.
-pub fn refuses(scene: &Scene, edit: Edit, cause: Refusal) -> bool {
-    check(scene, &edit) == Err(cause)
-}
-
-pub fn limit(what: Counted, count: u32) -> Refusal {
-    Refusal::Limit { what, count }
-}
+use units::{Axis, Name};
 
 /// The names of a furnished scene, and three that don't stand there.
 #[derive(Clone, Copy)]
@@ -317,10 +202,36 @@ fn tells_limit(scene: &Scene, alloc: Global, list: &[Name], n: &Names) -> Result
     )
 }
 
+/// Makes 32 groups of one shape.
+fn put_groups(scene: &mut Scene, alloc: Global, n: &Names) -> Result<(), Fail> {
+    for number in 0..32 {
+        let name = numbered(b'g', number)?;
+        accepted(scene, group(name, 0, members(alloc, &[n.a])?))?;
+    }
+    Ok(())
+}
+
+/// The limit on members comes before that on the sort.
+fn tells_members_first(
+    scene: &Scene,
+    alloc: Global,
+    list: &[Name],
+    n: &Names,
+) -> Result<bool, Fail> {
+    let long = group(n.free, 0, members(alloc, list)?);
+    let short = group(n.free, 0, members(alloc, &[n.a])?);
+    Ok(
+        refuses(scene, long, limit(Counted::Members, 64))
+            && refuses(scene, short, limit(Counted::Groups, 32)),
+    )
+}
+
 fn tells_limits(scene: &mut Scene, alloc: Global, n: &Names) -> Result<bool, Fail> {
     let mut list = Vec::new(alloc);
     put_rows(scene, &mut list)?;
-    tells_limit(scene, alloc, &list, n)
+    let limited = tells_limit(scene, alloc, &list, n)?;
+    put_groups(scene, alloc, n)?;
+    Ok(limited && tells_members_first(scene, alloc, &list, n)?)
 }
 
 fn tells_each(scene: &mut Scene, alloc: Global) -> Result<(), Fail> {

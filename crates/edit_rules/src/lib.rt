@@ -28,4 +28,6 @@ mod checking_tests;
 #[cfg(test)]
 mod limit_tests;
 #[cfg(test)]
+mod test_edits;
+#[cfg(test)]
 mod tests;

@@ -1,6 +1,6 @@
 //! The limit on separations, and a flow chart played edit by edit.
-use crate::checking_tests::{
-    accepted, expect, group, guide, limit, members, name, rank, refuses, spread,
+use crate::test_edits::{
+    accepted, expect, group, guide, limit, members, name, numbered, rank, refuses, spread,
 };
 use crate::{Counted, Edit, Refusal};
 use scene_model::{AlignLine, Form, Scene};
@@ -8,11 +8,6 @@ use sep_gen::count;
 use std::alloc::Global;
 use std::test::Fail;
 use units::{Axis, Members, Name};
-
-/// A letter and a number below 100, as the name `b07`.
-fn numbered(letter: u8, number: u8) -> Result<Name, Fail> {
-    name(&[letter, b'0' + number / 10, b'0' + number % 10])
-}
 
 fn put_form(
     scene: &mut Scene,

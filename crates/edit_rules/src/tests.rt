@@ -1,6 +1,6 @@
 //! What no clause says: that with ample memory edits are copied and applied.
 use crate::Edit;
-use crate::checking_tests::{
+use crate::test_edits::{
     accepted, align, apart, expect, group, guide, join, members, name, page, put, rank, spread,
 };
 use scene_model::{Compound, Form, Guide, Link, Page, Rule, Scene, Shape, Sort};
