@@ -24,7 +24,7 @@ use Rattle.edit_rules.specs.declared.refusals.Refusal.{Refusal}
 use Rattle.edit_rules.specs.declared.refusals.Refusal.TheVariants as refusal
 use Rattle.edit_rules.specs.Causes.{Holds, rank, IsFull, IsCrowded, IsRefused, Accepts}
 use Rattle.edit_rules.specs.Effects.{made, changed, edited}
-use Rattle.edit_rules.specs.Naming.{naming, is_of_kind, old_names}
+use Rattle.edit_rules.specs.Naming.{Naming, naming, is_of_kind, old_names}
 use Rattle.edit_rules.specs.Ranges.{IsWithin, numbers, is_outside}
 use Rattle.edit_rules.specs.Refusals.{range_refusal, unknown_among, taken_refusal, kind_among, twice_among, in_use_refusal, counted_as, members_refusal, count_refusal, full_refusal, most_separations, is_crowded, separations_refusal, first_of, first_twice, named_refusals, limit_refusals, refusals, refusal_of}
 use Rattle.edit_rules.proofs.Firsts.{find-first, first-find}
@@ -299,6 +299,13 @@ module _ (d : Diagram) (e : Edit) where
   refused_limit r within named is =
       first_of-head (range_refusal e) behind_range within
       ∙ (first_of-right (named_refusals d (naming e)) (limits ++ separations_refusal d e ∷ []) named ∙ first_of-left limits (separations_refusal d e ∷ []) r is)
+
+-- what one naming gives is what an equal one gives
+pub by_names : (d : Diagram) (held says : Naming) → held ≡ says → (o : Option Refusal) → o ≡ first_of (named_refusals d held) → first_of (named_refusals d says) ≡ o
+by_names d held says same o is = ap (λ (n : Naming). first_of (named_refusals d n)) (sym same) ∙ sym is
+
+pub by_limits : (d : Diagram) (held says : Naming) → held ≡ says → (o : Option Refusal) → o ≡ first_of (limit_refusals d held.row held.makes) → first_of (limit_refusals d says.row says.makes) ≡ o
+by_limits d held says same o is = ap (λ (n : Naming). first_of (limit_refusals d n.row n.makes)) (sym same) ∙ sym is
 
 -- ---- the first in the list
 
