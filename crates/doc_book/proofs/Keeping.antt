@@ -23,7 +23,7 @@ use Rattle.doc_book.specs.Frames.{IsFrameOf}
 use Rattle.doc_book.specs.Growing.{entry_of}
 use Rattle.doc_book.specs.History.{edits_after, standing, scene_at, places_at, is_end, is_frame, end_place, after_end, frame_count}
 use Rattle.doc_book.specs.Kept.{IsKept, IsOpenCount, IsEndedCount}
-use Rattle.doc_book.specs.Legal.{HasRoom}
+use Rattle.doc_book.specs.Legal.{HasRoom, most_finishing}
 use Rattle.doc_book.specs.Projection.{IsShown}
 use Rattle.script_text.specs.Commands.{is_built_edit}
 use Rattle.doc_book.specs.Verdicts.{verdict}
@@ -94,7 +94,7 @@ counted_one b is = ap (λ t. cond t 1 0) is
 
 -- the counts with one frame more
 counts_with_frame : (h : List Entry) (budget : ℕ) (entry : Entry) → is_end entry ≡ false → is_frame entry ≡ true → (o : Option ℕ) → end_place h ≡ o
-    → MatchOption o (IsOpenCount h budget) (λ _. IsEndedCount h budget) → MatchOption o (frame_count h < budget) (λ _. length (after_end h) < 64)
+    → MatchOption o (IsOpenCount h budget) (λ _. IsEndedCount h budget) → MatchOption o (frame_count h < budget) (λ _. length (after_end h) < most_finishing)
     → MatchOption (end_place (h ++ entry ∷ [])) (IsOpenCount (h ++ entry ∷ []) budget) (λ _. IsEndedCount (h ++ entry ∷ []) budget)
 counts_with_frame h budget entry other frame None is counts room =
     let frames = frame_count-push h entry in

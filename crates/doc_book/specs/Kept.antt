@@ -6,7 +6,7 @@ use Rattle.scene_model.specs.Variables.{variables}
 use Rattle.frame_store.specs.declared.places.Places.{Places}
 use Rattle.doc_book.specs.declared.entries.Entry.{Entry}
 use Rattle.doc_book.specs.History.{scene_at, places_at, end_place, frame_count, after_end, IsSettled}
-use Rattle.doc_book.specs.Legal.{IsLegal}
+use Rattle.doc_book.specs.Legal.{most_frames, most_finishing, IsLegal}
 use Rattle.doc_book.specs.Verdicts.{most_entries}
 
 -- a history that was not ended has at most 20,000 entries and its frames, and no more frames than its budget
@@ -18,7 +18,7 @@ pub record IsOpenCount (h : List Entry) (budget : ℕ) : Type 0 where
 pub record IsEndedCount (h : List Entry) (budget : ℕ) : Type 0 where
   pub frames : frame_count h ≤ budget + length (after_end h)
   pub entries : length h ≤ most_entries + frame_count h + 1
-  pub finishing : length (after_end h) ≤ 64
+  pub finishing : length (after_end h) ≤ most_finishing
 
 -- the history is legal, the scene and places are those that it leads to, and its counts are bounded
 pub record IsKept (h : List Entry) (budget : ℕ) (scene : Diagram) (places : Places) (settled : Bool) : Type 0 where
@@ -28,5 +28,5 @@ pub record IsKept (h : List Entry) (budget : ℕ) (scene : Diagram) (places : Pl
   pub on_x : length places.x ≡ length (variables scene X)
   pub on_y : length places.y ≡ length (variables scene Y)
   pub settled_is : IsTrue settled ↔ IsSettled h
-  pub budget_small : budget ≤ 512
+  pub budget_small : budget ≤ most_frames
   pub counts : MatchOption (end_place h) (IsOpenCount h budget) (λ _. IsEndedCount h budget)

@@ -8,6 +8,10 @@ use Rattle.doc_book.specs.Frames.{IsFrameOf}
 use Rattle.doc_book.specs.History.{scene_at, places_at, end_place, frame_count, after_end}
 use Rattle.doc_book.specs.Verdicts.{verdict}
 
+-- the most frames that a budget allows before End
+abbrev pub most_frames : ℕ
+most_frames = 512
+
 -- the most frames after End
 abbrev pub most_finishing : ℕ
 most_finishing = 64

@@ -1,5 +1,5 @@
 -- What a look finds, right replies, and own entries.
-use Rattle.std.specs.Prelude.{◌≡◌, ℕ, ◌+◌, ◌<◌, ◌≤◌, List, [], ◌∷◌, length, take, filter, map, ◌==◌, Some, None, slice_get, ⊤}
+use Rattle.std.specs.Prelude.{◌≡◌, ℕ, ◌+◌, ◌<◌, ◌≤◌, List, [], ◌∷◌, length, take, filter, filter_map, map, ◌==◌, Option, Some, None, slice_get, ⊤}
 use Rattle.edit_rules.specs.declared.refusals.Refusal.{Refusal}
 use Rattle.edit_rules.specs.declared.refusals.Refusal.TheVariants as refusal
 use Rattle.script_text.specs.declared.scripts.Command.{Command}
@@ -39,8 +39,9 @@ IsEntryAt h place who line P = (e : Entry) × (slice_get h place ≡ Some e) × 
 
 -- the act is a frame, whichever
 abbrev pub IsFrameAct : Act → Type 0
+IsFrameAct (act.Edit e) = ⊥
 IsFrameAct (act.Frame f) = ⊤
-IsFrameAct _ = ⊥
+IsFrameAct act.End = ⊥
 
 -- an accepted edit stands at its place, and the entries before it accept it
 abbrev pub IsAccepted : List Entry → ℕ → ℕ → ℕ → Command → Type 0
@@ -106,16 +107,15 @@ AreRightReplies h budget who seen (l ∷ ls) [] = ⊥
 abbrev pub own_entries : List Entry → ℕ → List Entry
 own_entries h who = filter (λ (e : Entry). e.who == who) h
 
--- the places of the entries that replies name: those of Accepted and Published, in order
-abbrev pub made_places : List Reply → List ℕ
-made_places [] = []
-made_places (reply.Accepted place ∷ rs) = place ∷ made_places rs
-made_places (reply.Published place ∷ rs) = place ∷ made_places rs
-made_places (reply.Refused r ∷ rs) = made_places rs
-made_places (reply.Idle front ∷ rs) = made_places rs
-made_places (reply.Spent front ∷ rs) = made_places rs
-made_places (reply.Answer a ∷ rs) = made_places rs
+-- the place of the entry that a reply names, if it names one
+abbrev pub made_place : Reply → Option ℕ
+made_place (reply.Accepted place) = Some place
+made_place (reply.Published place) = Some place
+made_place (reply.Refused r) = None
+made_place (reply.Idle front) = None
+made_place (reply.Spent front) = None
+made_place (reply.Answer a) = None
 
 -- the entries of a caller are those at the places that its replies name, in order, each once
 abbrev pub OwnEntriesAre : List Entry → ℕ → List Reply → Type 0
-OwnEntriesAre h who replies = map Some (own_entries h who) ≡ map (slice_get h) (made_places replies)
+OwnEntriesAre h who replies = map Some (own_entries h who) ≡ map (slice_get h) (filter_map made_place replies)

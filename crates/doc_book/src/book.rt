@@ -4,7 +4,7 @@ ghost use Rattle.units.specs.declared.geometry.Axis.TheVariants as axes;
 ghost use Rattle.scene_model.specs.Variables.{variables};
 ghost use Rattle.doc_book.specs.Document.{Document};
 ghost use Rattle.doc_book.specs.History.{scene_at, places_at, IsSettled};
-ghost use Rattle.doc_book.specs.Legal.{IsLegal};
+ghost use Rattle.doc_book.specs.Legal.{most_frames, IsLegal};
 
 use crate::entries::Entry;
 use frame_store::Places;
@@ -40,9 +40,9 @@ impl Model for Book {
 }
 
 impl Book {
-    /// The document without entries, with a budget of frames before End: at most `MOST_FRAMES`, 512.
+    /// The document without entries, with a budget of frames before End: at most 512 (`MOST_FRAMES`).
     pub fn new(alloc: Global, frames: u32) -> Book
-        requires { frames ≤ 512 }
+        requires { frames ≤ most_frames }
         ensures { result ≡ record { history = []; budget = frames } }
     {
         Book {

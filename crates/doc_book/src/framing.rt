@@ -21,6 +21,7 @@ pub fn frame_of(alloc: Global, scene: &Scene, places: &Places) -> Result<Frame, 
     requires on_y { length places.now.y ≡ length (variables scene.now axes.Y) }
     ensures { IfOk result (λ frame. IsFrameOf scene.now places.now frame) }
 {
+    // Asked for what its type keeps, which the proof needs.
     let _sound = scene.count(Sort::Shape);
     let desired = Desired {
         x: clamped(alloc, places.x.as_slice())?,

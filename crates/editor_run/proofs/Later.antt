@@ -1,5 +1,6 @@
 -- Right replies and own entries, as more entries come after them.
 use Rattle.std.proofs.Common.{◌≡◌, ◌≢◌, ℕ, zero, suc, ◌<◌, ◌≤◌, List, [], ◌∷◌, ◌++◌, map, Bool, true, false, cond, Some, None, length, take, refl, ap, sym, ◌∙◌, subst, arith, ◌==◌, slice_get}
+use Rattle.std.specs.Prelude.{filter_map}
 use Rattle.std.specs.List.{AllByRecursion}
 use Rattle.std.proofs.lemmas.List.{append-nil, take-append-le, length-append}
 use Rattle.std.proofs.lemmas.List.Elements.{filter-append}
@@ -15,7 +16,7 @@ use Rattle.doc_book.specs.declared.replies.Reply.TheVariants as reply
 use Rattle.doc_book.specs.History.{scene_at}
 use Rattle.doc_book.specs.Spots.{ask_refusal}
 use Rattle.doc_book.specs.Verdicts.{verdict}
-use Rattle.doc_book.specs.Replies.{Ending, Spent, Idle, IsLook, IsEntryAt, IsFrameAct, IsAccepted, IsRefused, IsAnswered, IsRightReply, AreRightReplies, OwnEntriesAre, own_entries, made_places, after_of}
+use Rattle.doc_book.specs.Replies.{Ending, Spent, Idle, IsLook, IsEntryAt, IsFrameAct, IsAccepted, IsRefused, IsAnswered, IsRightReply, AreRightReplies, OwnEntriesAre, own_entries, made_place, after_of}
 
 -- ---- an element, and the front of a list
 
@@ -100,7 +101,7 @@ OwnEntriesAre-append h more who replies others are =
     let split : own_entries (h ++ more) who ≡ own_entries h who ++ own_entries more who = filter-append _ h more in
     let same : own_entries (h ++ more) who ≡ own_entries h who =
     split ∙ ap (λ (es : List Entry). own_entries h who ++ es) (own_entries-others more who others) ∙ append-nil (own_entries h who) in
-    ap (map Some) same ∙ elements-append h more (own_entries h who) (made_places replies) are
+    ap (map Some) same ∙ elements-append h more (own_entries h who) (filter_map made_place replies) are
 
 -- the same where the run itself made the further entries
 pub OwnEntriesAre-append_run : (h more : List Entry) (who : ℕ) (replies : List Reply) → 1 ≤ who → AllByRecursion (λ (e : Entry). e.who ≡ 0) more → OwnEntriesAre h who replies → OwnEntriesAre (h ++ more) who replies

@@ -1,7 +1,7 @@
+pub mod Ending
 pub mod Elements
 pub mod Later
 pub mod Lines
 pub mod Replying
 pub mod Settling
 pub mod Together
-pub mod Failing

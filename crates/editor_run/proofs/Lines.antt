@@ -1,18 +1,17 @@
 -- One line more of those that were played.
 use Rattle.std.proofs.Common.{◌≡◌, ◌≢◌, ℕ, zero, suc, ◌+◌, ◌-◌, ◌<◌, ◌≤◌, List, [], ◌∷◌, ◌++◌, map, cond, Option, Some, None, length, take, get_or, refl, ap, sym, ◌∙◌, subst, arith, ◌==◌, slice_get, slice_set, true, false, eq-eqb, ne_eqb, inl, inr}
-use Rattle.std.specs.List.{AllByRecursion}
-use Rattle.std.specs.Prelude.{replicate}
+use Rattle.std.specs.List.{AllByRecursion, cons_option}
+use Rattle.std.specs.Prelude.{replicate, filter_map}
 use Rattle.std.proofs.lemmas.List.{append-nil, map_push, length-append, take_more}
-use Rattle.std.proofs.lemmas.List.Elements.{filter-append}
+use Rattle.std.proofs.lemmas.List.Elements.{filter-append, filter_map-append}
 use Rattle.script_text.specs.declared.scripts.Line.{Line}
 use Rattle.doc_book.specs.declared.entries.Entry.{Entry}
 use Rattle.doc_book.specs.declared.replies.Reply.{Reply}
-use Rattle.doc_book.specs.declared.replies.Reply.TheVariants as reply
 use Rattle.doc_book.specs.Document.{Document}
 use Rattle.doc_book.specs.Listing.{session_lines}
-use Rattle.doc_book.specs.Replies.{IsRightReply, AreRightReplies, OwnEntriesAre, own_entries, made_places, after_of, from_of}
+use Rattle.doc_book.specs.Replies.{IsRightReply, AreRightReplies, OwnEntriesAre, own_entries, made_place, after_of, from_of}
 use Rattle.editor_run.specs.Played.{ForSessions}
-use Rattle.editor_run.specs.Progress.{Adds, PlaysLine, HasReplies, HasPlayed, IsSessionLine, IsSessionEntry, made_place, with_reply}
+use Rattle.editor_run.specs.Progress.{Adds, PlaysLine, HasReplies, HasPlayed, IsSessionLine, IsSessionEntry, with_reply}
 use Rattle.editor_run.proofs.Elements.{all-push, all-then, all-at}
 use Rattle.editor_run.proofs.Later.{AreRightReplies-append, OwnEntriesAre-append, elements-append}
 use Rattle.editor_run.proofs.Replying.{slice_get-last}
@@ -28,38 +27,18 @@ AreRightReplies-push h budget who seen (m ∷ ms) [] l r are right from all = ab
 AreRightReplies-push h budget who seen (m ∷ ms) (x ∷ xs) l r are right from all =
     (are.0, are.1, AreRightReplies-push h budget who (after_of x) ms xs l r are.2 right all.0 all.1)
 
-made_places-append : (xs ys : List Reply) → made_places (xs ++ ys) ≡ made_places xs ++ made_places ys
-made_places-append [] ys = refl
-made_places-append (reply.Accepted place ∷ xs) ys = ap (λ ps. place ∷ ps) (made_places-append xs ys)
-made_places-append (reply.Published place ∷ xs) ys = ap (λ ps. place ∷ ps) (made_places-append xs ys)
-made_places-append (reply.Refused r ∷ xs) ys = made_places-append xs ys
-made_places-append (reply.Idle front ∷ xs) ys = made_places-append xs ys
-made_places-append (reply.Spent front ∷ xs) ys = made_places-append xs ys
-made_places-append (reply.Answer a ∷ xs) ys = made_places-append xs ys
+-- the places that replies name, with one reply more
+made_place-none : (rs : List Reply) (r : Reply) → made_place r ≡ None → filter_map made_place (rs ++ r ∷ []) ≡ filter_map made_place rs
+made_place-none rs r none = filter_map-append made_place rs (r ∷ []) ∙ ap (λ (o : Option ℕ). filter_map made_place rs ++ cons_option o []) none ∙ append-nil (filter_map made_place rs)
 
-made_places-none : (r : Reply) → made_place r ≡ None → made_places (r ∷ []) ≡ []
-made_places-none (reply.Accepted place) none = cc
-made_places-none (reply.Published place) none = cc
-made_places-none (reply.Refused r) none = refl
-made_places-none (reply.Idle front) none = refl
-made_places-none (reply.Spent front) none = refl
-made_places-none (reply.Answer a) none = refl
-
-made_places-some : (r : Reply) (p : ℕ) → made_place r ≡ Some p → made_places (r ∷ []) ≡ p ∷ []
-made_places-some (reply.Accepted place) p some = cc
-made_places-some (reply.Published place) p some = cc
-made_places-some (reply.Refused r) p some = cc
-made_places-some (reply.Idle front) p some = cc
-made_places-some (reply.Spent front) p some = cc
-made_places-some (reply.Answer a) p some = cc
+made_place-some : (rs : List Reply) (r : Reply) (place : ℕ) → made_place r ≡ Some place → filter_map made_place (rs ++ r ∷ []) ≡ filter_map made_place rs ++ place ∷ []
+made_place-some rs r place some = filter_map-append made_place rs (r ∷ []) ∙ ap (λ (o : Option ℕ). filter_map made_place rs ++ cons_option o []) some
 
 -- ---- own entries with one more
 
 OwnEntriesAre-none : (h : List Entry) (who : ℕ) (rs : List Reply) (r : Reply) → OwnEntriesAre h who rs → made_place r ≡ None → OwnEntriesAre h who (rs ++ r ∷ [])
 OwnEntriesAre-none h who rs r are none =
-    let same : made_places (rs ++ r ∷ []) ≡ made_places rs =
-    made_places-append rs (r ∷ []) ∙ ap (λ ps. made_places rs ++ ps) (made_places-none r none) ∙ append-nil (made_places rs) in
-    are ∙ ap (map (slice_get h)) (sym same)
+    are ∙ ap (map (slice_get h)) (sym (made_place-none rs r none))
 
 OwnEntriesAre-some : (h : List Entry) (who : ℕ) (rs : List Reply) (r : Reply) (e : Entry) → OwnEntriesAre h who rs → e.who ≡ who → made_place r ≡ Some (length h)
     → OwnEntriesAre (h ++ e ∷ []) who (rs ++ r ∷ [])
@@ -68,15 +47,14 @@ OwnEntriesAre-some h who rs r e are by_who some =
     let split : own_entries (h ++ e ∷ []) who ≡ own_entries h who ++ own_entries (e ∷ []) who = filter-append _ h (e ∷ []) in
     let own : own_entries (h ++ e ∷ []) who ≡ own_entries h who ++ e ∷ [] = split ∙ ap (λ (es : List Entry). own_entries h who ++ es) one in
     let left : map Some (own_entries h who ++ e ∷ []) ≡ map Some (own_entries h who) ++ Some e ∷ [] = map_push Some (own_entries h who) e in
-    let places : made_places (rs ++ r ∷ []) ≡ made_places rs ++ length h ∷ [] =
-    made_places-append rs (r ∷ []) ∙ ap (λ ps. made_places rs ++ ps) (made_places-some r (length h) some) in
-    let old : map Some (own_entries h who) ≡ map (slice_get (h ++ e ∷ [])) (made_places rs) = elements-append h (e ∷ []) (own_entries h who) (made_places rs) are in
-    let right : map (slice_get (h ++ e ∷ [])) (made_places rs ++ length h ∷ []) ≡ map (slice_get (h ++ e ∷ [])) (made_places rs) ++ slice_get (h ++ e ∷ []) (length h) ∷ [] =
-    map_push (slice_get (h ++ e ∷ [])) (made_places rs) (length h) in
+    let places : filter_map made_place (rs ++ r ∷ []) ≡ filter_map made_place rs ++ length h ∷ [] = made_place-some rs r (length h) some in
+    let old : map Some (own_entries h who) ≡ map (slice_get (h ++ e ∷ [])) (filter_map made_place rs) = elements-append h (e ∷ []) (own_entries h who) (filter_map made_place rs) are in
+    let right : map (slice_get (h ++ e ∷ [])) (filter_map made_place rs ++ length h ∷ []) ≡ map (slice_get (h ++ e ∷ [])) (filter_map made_place rs) ++ slice_get (h ++ e ∷ []) (length h) ∷ [] =
+    map_push (slice_get (h ++ e ∷ [])) (filter_map made_place rs) (length h) in
     let last : slice_get (h ++ e ∷ []) (length h) ≡ Some e = slice_get-last h e in
     ap (map Some) own ∙ left
     ∙ ap (λ (os : List (Option Entry)). os ++ Some e ∷ []) old
-    ∙ ap (λ (o : Option Entry). map (slice_get (h ++ e ∷ [])) (made_places rs) ++ o ∷ []) (sym last)
+    ∙ ap (λ (o : Option Entry). map (slice_get (h ++ e ∷ [])) (filter_map made_place rs) ++ o ∷ []) (sym last)
     ∙ sym right ∙ ap (map (slice_get (h ++ e ∷ []))) (sym places)
 
 -- ---- the replies of one session, with one line more

@@ -20,8 +20,8 @@ use Rattle.doc_book.specs.Growing.{Grows, entry_of}
 use Rattle.doc_book.specs.Answers.{IsLaid}
 use Rattle.doc_book.specs.History.{is_end}
 use Rattle.doc_book.specs.Verdicts.{verdict}
-use Rattle.doc_book.specs.Replies.{IsAccepted, IsRefused, IsLayout, IsRightReply, after_of, from_of}
-use Rattle.editor_run.specs.Progress.{PlaysLine, made_place}
+use Rattle.doc_book.specs.Replies.{IsAccepted, IsRefused, IsLayout, IsRightReply, after_of, from_of, made_place}
+use Rattle.editor_run.specs.Progress.{PlaysLine}
 
 pub slice_get-last : {X : Type 0} (xs : List X) (x : X) → slice_get (xs ++ x ∷ []) (length xs) ≡ Some x
 slice_get-last [] x = refl

@@ -11,6 +11,7 @@ use Rattle.doc_book.specs.declared.entries.Act.{Act}
 use Rattle.doc_book.specs.declared.entries.Act.TheVariants as act
 use Rattle.doc_book.specs.Document.{Document}
 use Rattle.doc_book.specs.Finished.{IsFinished, IsFinishing}
+use Rattle.doc_book.specs.Legal.{most_finishing}
 use Rattle.doc_book.specs.History.{end_place, after_end, is_end, is_end_act, is_frame_act, IsSettled}
 use Rattle.doc_book.proofs.Growing.{end_place-push_none, end_place-push_some, after_end-push_some}
 use Rattle.editor_run.specs.Finishing.{GrowsOnce, GrowsByFinishing}
@@ -21,7 +22,7 @@ pub record FinishesFrom (start h : Document) : Type 0 where
   pub grows : GrowsByFinishing start h
   pub ended : IsSome (end_place h.history)
   pub behind : after_end h.history ≡ grows.more
-  pub few : length grows.more ≤ 64
+  pub few : length grows.more ≤ most_finishing
   pub unsettled : (n : ℕ) → n < length h.history → 0 < length (after_end (take n h.history)) → IsSettled (take n h.history) → ⊥
 
 none≢some : (k : ℕ) → None ≡ Some k → ⊥
@@ -106,7 +107,7 @@ longer_behind start d d' f g =
     let place = some_of (end_place d.history) f.ended in
     ap length (ap after_end g.grown ∙ after_end-push_some d.history g.frame place.0 place.1) ∙ length-append (after_end d.history) (g.frame ∷ [])
 
-pub FinishesFrom-done : (start d : Document) → FinishesFrom start d → IsSettled d.history ⊎ (64 ≤ length (after_end d.history)) → IsFinished d.history
+pub FinishesFrom-done : (start d : Document) → FinishesFrom start d → IsSettled d.history ⊎ (most_finishing ≤ length (after_end d.history)) → IsFinished d.history
 FinishesFrom-done start d f why = record {
   ended = f.ended;
   frames = subst (AllByRecursion IsFinishing) (sym f.behind) f.grows.finishing;
@@ -115,10 +116,10 @@ FinishesFrom-done start d f why = record {
   first = f.unsettled;
 }
   where
-    some : IsSettled d.history ⊎ (64 ≤ length (after_end d.history)) → 0 < length (after_end d.history)
+    some : IsSettled d.history ⊎ (most_finishing ≤ length (after_end d.history)) → 0 < length (after_end d.history)
     some (inl settled) = let place = some_of (end_place d.history) f.ended in settled_after_end d.history place.0 place.1 settled
     some (inr full) = omega (arith, full)
 
-    last : IsSettled d.history ⊎ (64 ≤ length (after_end d.history)) → IsSettled d.history ⊎ (length (after_end d.history) ≡ 64)
+    last : IsSettled d.history ⊎ (most_finishing ≤ length (after_end d.history)) → IsSettled d.history ⊎ (length (after_end d.history) ≡ most_finishing)
     last (inl settled) = inl settled
     last (inr full) = inr (omega (arith, full, f.few, ap length f.behind))

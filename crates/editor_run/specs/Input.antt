@@ -1,9 +1,15 @@
--- What is known of the bytes of a script, where the source tells them.
-use Rattle.std.specs.Prelude.{ℕ, List, Option, IfSome}
+-- Reading a script: what is known of its bytes, where the source tells them, and why it fails.
+use Rattle.std.specs.Prelude.{◌≡◌, ◌⊎◌, ◌≤◌, ℕ, List, length, Option, Some, IfSome}
+use Rattle.std.specs.Io.KnownBytes.{IsAtEnd}
+use Rattle.byte_edge.specs.Count.{HasRisen}
+use Rattle.byte_edge.specs.Given.{GivesPast, GivesWithin}
 use Rattle.script_text.specs.declared.scripts.Line.{Line}
 use Rattle.script_text.specs.declared.faults.ScriptFault.{ScriptFault}
 use Rattle.script_text.specs.Scripts.{Spells}
 use Rattle.script_text.specs.Faults.{IsFault}
+use Rattle.editor_run.specs.declared.outcome.Fault.{Fault}
+use Rattle.editor_run.specs.declared.outcome.Fault.TheVariants as fault
+use Rattle.editor_run.specs.Ends.{Reading}
 
 -- the most bytes of a script
 abbrev pub most_bytes : ℕ
@@ -15,4 +21,40 @@ SpelledBy left script = IfSome left (λ bytes. Spells bytes script)
 
 -- where the bytes are told, they spell no script, and the fault is theirs
 abbrev pub HasFault : Option (List ℕ) → ScriptFault → Type 0
-HasFault left fault = IfSome left (λ bytes. IsFault bytes fault)
+HasFault left found = IfSome left (λ bytes. IsFault bytes found)
+
+-- the source was read to its end, and its bytes spell the script
+pub record IsRead (reading : Reading) (script : List Line) : Type 0 where
+  pub spelled : SpelledBy reading.left_before script
+  pub end : IsAtEnd reading.left_after
+
+-- the source was read to its end, and its bytes spell no script: the fault is theirs
+pub record IsFaulty (reading : Reading) (found : ScriptFault) : Type 0 where
+  pub none_spelled : HasFault reading.left_before found
+  pub end : IsAtEnd reading.left_after
+
+-- the source gave more than the most bytes of a script
+abbrev pub IsTooLong : Reading → Type 0
+IsTooLong reading = GivesPast most_bytes reading.left_before reading.left_after reading.given_before reading.given_after
+
+-- the source gave at most so many
+abbrev pub IsWithin : Reading → Type 0
+IsWithin reading = GivesWithin most_bytes reading.left_before reading.left_after reading.given_before reading.given_after
+
+-- the faults that have to do with the source have their causes in it
+pub record HasReadCauses (reading : Reading) (cause : Option Fault) : Type 0 where
+  -- a faulty script was read to its end, and is none
+  pub no_script : (f : ScriptFault) → cause ≡ Some (fault.Script f) → IsFaulty reading f
+  -- where the source failed, its faults rose
+  pub source_failed : cause ≡ Some fault.Source → HasRisen reading.faults_before reading.faults_after
+  -- else they stay
+  pub source_calm : (cause ≡ Some fault.Source) ⊎ (reading.faults_after ≡ reading.faults_before)
+  -- too long is an input of more than the most bytes
+  pub too_long : cause ≡ Some fault.Long → IsTooLong reading
+  -- else at most so many were given
+  pub within : (cause ≡ Some fault.Long) ⊎ IsWithin reading
+
+-- where no read failed, and the bytes are told, are not too many and spell a script, this holds
+abbrev pub WhereSpelled : Reading → Type 0 → Type 0
+WhereSpelled reading P = ¬ HasRisen reading.faults_before reading.faults_after
+    → IfSome reading.left_before (λ bytes. length bytes ≤ most_bytes → (script : List Line) → Spells bytes script → P)

@@ -1,5 +1,7 @@
+pub mod Ends
 pub mod Finishing
 pub mod Input
 pub mod Outcomes
 pub mod Played
 pub mod Progress
+pub mod Runs

@@ -1,7 +1,6 @@
 -- A script that was played to the end of its document.
-use Rattle.std.specs.Prelude.{◌≡◌, ℕ, ◌+◌, ◌≤◌, List, [], ◌∷◌, length, take, drop, Option, Some, ⊤}
+use Rattle.std.specs.Prelude.{◌≡◌, ℕ, ◌+◌, ◌≤◌, List, [], ◌∷◌, length, take, drop, Some, ⊤}
 use Rattle.std.specs.List.{AllByRecursion}
-use Rattle.byte_edge.specs.Taken.{TakesPart}
 use Rattle.script_text.specs.declared.scripts.Line.{Line}
 use Rattle.doc_book.specs.declared.entries.Entry.{Entry}
 use Rattle.doc_book.specs.declared.replies.Reply.{Reply}
@@ -9,7 +8,7 @@ use Rattle.doc_book.specs.Document.{Document}
 use Rattle.doc_book.specs.Finished.{IsFinished}
 use Rattle.doc_book.specs.History.{end_place}
 use Rattle.doc_book.specs.Legal.{IsLegal}
-use Rattle.doc_book.specs.Listing.{session_lines, listing_text}
+use Rattle.doc_book.specs.Listing.{session_lines}
 use Rattle.doc_book.specs.Replies.{AreRightReplies, OwnEntriesAre, after_of}
 
 -- a fact of each session and its replies, for further sessions from one on
@@ -39,13 +38,3 @@ pub record AreCallers (history : List Entry) (replies : List (List Reply)) : Typ
   pub sessions : AllByRecursion (λ (e : Entry). (1 ≤ e.who) × (e.who ≤ 8)) (take place history)
   pub run : AllByRecursion (λ (e : Entry). e.who ≡ 0) (drop place history)
   pub before_end : AllByRecursion (AllByRecursion (λ (r : Reply). after_of r ≤ place)) replies
-
--- a part of the listing of a script that was read and played was put, from the front
-pub record PutsPart (IsRead : List Line → Type 0) (budget : ℕ) (put put' : Option (List ℕ)) : Type 0 where
-  pub script : List Line
-  pub document : Document
-  pub replies : List (List Reply)
-  pub read : IsRead script
-  pub history : IsRightHistory budget document
-  pub right : HaveRightReplies document script replies
-  pub part : TakesPart put put' (listing_text script document.history replies)

@@ -1,26 +1,16 @@
 -- A script that is being played, line by line, each for its session.
-use Rattle.std.specs.Prelude.{◌≡◌, ◌⊎◌, ℕ, ◌-◌, ◌≤◌, List, [], ◌∷◌, ◌++◌, length, slice_index_or, slice_set, true, false, Option, Some, None}
+use Rattle.std.specs.Prelude.{◌≡◌, ◌⊎◌, ℕ, ◌-◌, ◌≤◌, List, [], ◌∷◌, ◌++◌, length, slice_index_or, slice_set, true, false, Some, None}
 use Rattle.std.specs.List.{AllByRecursion}
 use Rattle.script_text.specs.declared.scripts.Line.{Line}
 use Rattle.script_text.specs.Keywords.{is_built}
 use Rattle.script_text.specs.Commands.{command_keyword}
 use Rattle.doc_book.specs.declared.entries.Entry.{Entry}
 use Rattle.doc_book.specs.declared.replies.Reply.{Reply}
-use Rattle.doc_book.specs.declared.replies.Reply.TheVariants as reply
 use Rattle.doc_book.specs.Document.{Document}
 use Rattle.doc_book.specs.History.{is_end}
 use Rattle.doc_book.specs.Listing.{session_lines}
-use Rattle.doc_book.specs.Replies.{IsRightReply, AreRightReplies, OwnEntriesAre, after_of, from_of}
+use Rattle.doc_book.specs.Replies.{IsRightReply, AreRightReplies, OwnEntriesAre, made_place, after_of, from_of}
 use Rattle.editor_run.specs.Played.{ForSessions}
-
--- the place of the entry that a reply names, if it names one
-abbrev pub made_place : Reply → Option ℕ
-made_place (reply.Accepted place) = Some place
-made_place (reply.Published place) = Some place
-made_place (reply.Refused r) = None
-made_place (reply.Idle front) = None
-made_place (reply.Spent front) = None
-made_place (reply.Answer a) = None
 
 -- a line's reply added this to the history: nothing, or one entry of the line's session, which isn't End
 abbrev pub Adds : List Entry → List Entry → ℕ → Reply → Type 0

@@ -3,14 +3,14 @@
 
 mod finishing;
 mod input;
-pub mod outcome;
+mod outcome;
+mod plan;
 mod playing;
-pub mod running;
+mod running;
 mod whole;
 
 pub use input::MOST_BYTES;
 pub use outcome::{Fault, Outcome};
-pub use running::{Plan, run, run_alone};
+pub use plan::Plan;
+pub use running::{run, run_alone};
 
-#[cfg(test)]
-mod tests;

@@ -30,6 +30,24 @@ pub enum Fault {
     Long,
 }
 
+impl Fault {
+    ghost use Rattle.editor_run.specs.Outcomes.{status_of};
+
+    /// The exit status of the fault, from 2 to 7.
+    pub fn status(self) -> u8
+        ensures { result ≡ status_of self }
+    {
+        match self {
+            Fault::Words => 2,
+            Fault::Script(_) => 3,
+            Fault::Source => 4,
+            Fault::Memory => 5,
+            Fault::Sink => 6,
+            Fault::Long => 7,
+        }
+    }
+}
+
 impl From<ReadStop> for Fault {
     ghost use Rattle.editor_run.specs.Outcomes.{fault_of_stop};
 

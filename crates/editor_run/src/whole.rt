@@ -3,6 +3,7 @@ ghost use Rattle.std.specs.Prelude.{◌≡◌, ◌≤◌, None, [], ◌∷◌, �
 ghost use Rattle.doc_book.specs.declared.entries.Act.TheVariants as act;
 ghost use Rattle.doc_book.specs.Growing.{entry_of};
 ghost use Rattle.doc_book.specs.History.{end_place};
+ghost use Rattle.doc_book.specs.Legal.{most_frames};
 ghost use Rattle.editor_run.specs.Played.{IsRightHistory, AreOwnEntries, HaveRightReplies, AreCallers};
 
 use crate::finishing::finish_all;
@@ -21,7 +22,7 @@ pub struct Played {
 
 /// Plays the lines of a script in order, ends the document and finishes it.
 pub fn play_whole(alloc: Global, frames: u32, script: &Script) -> Result<Played, Memory>
-    requires { frames ≤ 512 }
+    requires { frames ≤ most_frames }
     ensures history { IfOk result (λ p. IsRightHistory frames p.book) }
     ensures own_entries { IfOk result (λ p. AreOwnEntries p.book p.replies) }
     ensures replies { IfOk result (λ p. HaveRightReplies p.book script.now p.replies) }
@@ -31,6 +32,7 @@ pub fn play_whole(alloc: Global, frames: u32, script: &Script) -> Result<Played,
     let lists = play_lines(alloc, &mut book, script.lines())?;
     end(&mut book)?;
     finish_all(alloc, &mut book)?;
+    // Asked for what its type keeps, which the proof needs.
     let _legal = book.history();
     Ok(Played {
         book,

@@ -74,6 +74,7 @@ fn floor(fraction: &Frac) -> i64
     requires { IsNear fraction.now }
     ensures { result ≡ floor_of fraction.now }
 {
+    // Asked for what its type keeps, which the proof needs.
     let _den = fraction.unsigned_den();
     fraction.floor()
 }

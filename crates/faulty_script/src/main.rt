@@ -1,0 +1,9 @@
+//! The program over a script with a fault: the stored run of a failure.
+#![tactic(auto)]
+
+use standard_run::run_process;
+use std::process::ExitCode;
+
+fn main(rt: HostRuntime) -> ExitCode {
+    run_process(&rt)
+}

@@ -1,0 +1,228 @@
+//! What no clause says: worked scripts from bytes to bytes, statuses with their texts, and one failing call of each end.
+mod rows;
+
+use byte_edge::{MemSink, MemSource, Sink, Source, StdSink, StdSource, SureSink, SureSource};
+use editor_run::{Fault, Plan, run, run_alone};
+use rows::*;
+use script_text::{FaultKind, ScriptFault};
+use std::alloc::{AllocError, Global};
+use std::io;
+use std::test::Fail;
+
+/// How a run ended.
+#[derive(Clone, Copy)]
+struct End {
+    status: u8,
+    fault: Option<Fault>,
+}
+
+/// The end of a run.
+fn end_of<R: AllocGlobal, S: Source, K: Sink>(
+    rt: &R,
+    words: Vec<String>,
+    source: &mut S,
+    sink: &mut K,
+) -> End {
+    let outcome = run(rt, words, source, sink);
+    End {
+        status: outcome.status,
+        fault: outcome.fault,
+    }
+}
+
+/// The end of a run without words over a source and a sink that never fail.
+fn played<R: AllocGlobal>(rt: &R, script: Vec<u8>, sink: &mut SureSink) -> End {
+    let mut source = SureSource::new(script);
+    end_of(rt, Vec::new(rt.alloc()), &mut source, sink)
+}
+
+/// The status and the text of the fault of a run that must fail.
+fn said(alloc: Global, end: End) -> Result<String, Fail> {
+    let fault = end.fault.ok_or("a fault")?;
+    Ok(format!(in alloc; "{} {fault}", end.status)?)
+}
+
+/// Plays the script, which prints the listing.
+fn prints<R: AllocGlobal>(rt: &R, script: &[u8], listing: &[u8]) -> Result<(), Fail> {
+    let alloc = rt.alloc();
+    let mut sink = SureSink::new(alloc);
+    let end = played(rt, script.to_vec(alloc)?, &mut sink);
+    if end.status != 0 {
+        return Err("status 0".into());
+    }
+    if sink.bytes() != listing {
+        return Err("the listing".into());
+    }
+    Ok(())
+}
+
+#[test]
+fn worked_scripts(rt: HostRuntime) -> Result<(), Fail> {
+    for (script, listing) in [
+        (FIRST_BOX, FIRST_BOX_LISTING),
+        (EMPTY, EMPTY_LISTING),
+        (TWO_SESSIONS, TWO_SESSIONS_LISTING),
+        (MOVED_AFTER_FRAME, MOVED_AFTER_FRAME_LISTING),
+        (ASKED_TWICE, ASKED_TWICE_LISTING),
+        (READ_BACK, READ_BACK_LISTING),
+        (OUT_OF_RANGE, OUT_OF_RANGE_LISTING),
+        (EACH_EDIT, EACH_EDIT_LISTING),
+    ] {
+        prints(&rt, script, listing)?;
+    }
+    Ok(())
+}
+
+/// The status of a run without frames before End.
+fn status_without_frames<R: AllocGlobal>(
+    rt: &R,
+    source: &mut SureSource,
+    sink: &mut SureSink,
+) -> u8 {
+    let plan = Plan {
+        workers: 0,
+        frames: 0,
+        svg: false,
+        made: None,
+    };
+    run_alone(rt, plan, source, sink).status
+}
+
+#[test]
+fn no_frames(rt: HostRuntime) -> Result<(), Fail> {
+    let alloc = rt.alloc();
+    let mut source = SureSource::new(FIRST_BOX.to_vec(alloc)?);
+    let mut sink = SureSink::new(alloc);
+    assert_eq!(rt; status_without_frames(&rt, &mut source, &mut sink), 0);
+    assert_eq!(rt; sink.bytes(), NO_FRAMES_LISTING);
+    Ok(())
+}
+
+#[test]
+fn texts_of_faults(rt: HostRuntime) -> Result<(), Fail> {
+    let script = ScriptFault {
+        line: 12,
+        kind: FaultKind::NotYet,
+    };
+    for (fault, text) in [
+        (Fault::Words, "words refused"),
+        (Fault::Source, "source failed"),
+        (Fault::Script(script), "line 12: NotYet"),
+        (Fault::Memory, "no memory"),
+        (Fault::Sink, "sink failed"),
+        (Fault::Long, "input too long"),
+    ] {
+        assert_eq!(rt; format!(in rt.alloc(); "{fault}")?.as_str(), text);
+    }
+    Ok(())
+}
+
+/// Plays the bytes, which end the run with this status and text; nothing is written.
+fn fails<R: AllocGlobal>(rt: &R, script: Vec<u8>, text: &str) -> Result<(), Fail> {
+    let mut sink = SureSink::new(rt.alloc());
+    let end = played(rt, script, &mut sink);
+    if said(rt.alloc(), end)?.as_str() != text {
+        return Err("the status and the text".into());
+    }
+    if !sink.bytes().is_empty() {
+        return Err("nothing written".into());
+    }
+    Ok(())
+}
+
+/// A script whose second line is longer than a line may be.
+fn long_line(alloc: Global) -> Result<Vec<u8>, AllocError> {
+    let mut script = Vec::from_slice(alloc, b"dunnart 1\n1 where ")?;
+    for _ in 0..2_041 {
+        script.push(b'a')?;
+    }
+    script.extend_from_slice(b"\nend\n")?;
+    Ok(script)
+}
+
+/// A script of one line more than a script may have.
+fn many_lines(alloc: Global) -> Result<Vec<u8>, AllocError> {
+    let mut script = Vec::from_slice(alloc, b"dunnart 1\n")?;
+    for _ in 0..2_001 {
+        script.extend_from_slice(b"1 layout\n")?;
+    }
+    script.extend_from_slice(b"end\n")?;
+    Ok(script)
+}
+
+#[test]
+fn faulty_scripts(rt: HostRuntime) -> Result<(), Fail> {
+    let alloc = rt.alloc();
+    for (script, text) in [
+        (b"dunnart 1\n1 box a 0".as_slice(), "3 line 2: Cut"),
+        (FIRST_BOX_WITHOUT_END, "3 line 5: Missing"),
+        (b"dunnart 1\n\xff\nend\n", "3 line 2: Session"),
+        (b"dunnart 1\n1 undo\nend\n", "3 line 2: NotYet"),
+        (b"", "3 line 1: Missing"),
+        (b"dunnart 1\r\n1 undo\nend\n", "3 line 1: Header"),
+        (b"dunnart 1\n9 undo\nend\n", "3 line 2: Session"),
+        (b"dunnart 1\n1  undo\nend\n", "3 line 2: Command"),
+        (b"dunnart 1\n1 layout \nend\n", "3 line 2: Fields"),
+        (b"dunnart 1\n1 box a 0 0 10 -0\nend\n", "3 line 2: Fields"),
+        (LARGE_NUMBER, "3 line 2: Fields"),
+        (b"dunnart 1\nend", "3 line 2: Cut"),
+        (b"dunnart 1\nend\nx", "3 line 3: After"),
+    ] {
+        fails(&rt, script.to_vec(alloc)?, text)?;
+    }
+    fails(&rt, long_line(alloc)?, "3 line 2: Long")?;
+    fails(&rt, many_lines(alloc)?, "3 line 2002: TooMany")?;
+    fails(
+        &rt,
+        vec![in alloc; b'a'; 1_048_577]?,
+        "7 input too long",
+    )
+}
+
+/// Plays the script of the first box over a source and a sink whose listed calls fail, with these words behind the
+/// program's name; nothing is written.
+fn stops<R: AllocGlobal>(
+    rt: &R,
+    words: &[&str],
+    source_fails: &[u32],
+    sink_fails: &[u32],
+    text: &str,
+) -> Result<(), Fail> {
+    let alloc = rt.alloc();
+    let mut source = MemSource::new(FIRST_BOX.to_vec(alloc)?, source_fails.to_vec(alloc)?);
+    let mut sink = MemSink::new(sink_fails.to_vec(alloc)?);
+    let end = end_of(rt, owned(alloc, words)?, &mut source, &mut sink);
+    if said(alloc, end)?.as_str() != text {
+        return Err("the status and the text".into());
+    }
+    if !sink.bytes().is_empty() {
+        return Err("nothing written".into());
+    }
+    Ok(())
+}
+
+/// The words as the program has them.
+fn owned(alloc: Global, words: &[&str]) -> Result<Vec<String>, AllocError> {
+    let mut all = Vec::new(alloc);
+    for word in words {
+        all.push(String::from_str(alloc, word)?)?;
+    }
+    Ok(all)
+}
+
+#[test]
+fn failing_ends(rt: HostRuntime) -> Result<(), Fail> {
+    stops(&rt, &["dunnart"], &[1], &[], "4 source failed")?;
+    stops(&rt, &["dunnart"], &[], &[1], "6 sink failed")?;
+    stops(&rt, &["dunnart", "--workers", "9"], &[1], &[1], "2 words refused")
+}
+
+#[test]
+fn real_ends(rt: HostRuntime) -> Result<(), Fail> {
+    let mut source = StdSource::new(rt.reader());
+    let mut sink = StdSink::new(io::writer(&rt));
+    let end = end_of(&rt, Vec::new(rt.alloc()), &mut source, &mut sink);
+    // Without an input that can be read the status is 4.
+    assert!(rt; end.status == 3 || end.status == 4);
+    Ok(())
+}
