@@ -4,3 +4,4 @@ pub mod Refusing
 pub mod Resting
 pub mod Spots
 pub mod EndPlace
+pub mod Unconstrained

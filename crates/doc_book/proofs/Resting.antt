@@ -10,10 +10,12 @@ use Rattle.std.proofs.lemmas.Int.{ints, int_max_is, int_min_is}
 use Rattle.std.proofs.lemmas.List.{length-map}
 use Rattle.std.proofs.lemmas.List.Elements.{All-from_recursion}
 use Rattle.units.specs.Number.{clamped}
-use Rattle.units.specs.Problem.{IsBounded}
+use Rattle.units.specs.Problem.{Problem, IsBounded}
+use Rattle.units.specs.declared.geometry.Sep.{Sep}
 use Rattle.units.specs.declared.geometry.Axis.{Axis}
 use Rattle.units.specs.declared.geometry.Axis.TheVariants.{X, Y}
 use Rattle.scene_model.specs.Diagram.{Diagram}
+use Rattle.scene_model.specs.Meaning.{Fits}
 use Rattle.scene_model.specs.Sound.{IsSound}
 use Rattle.scene_model.proofs.Bounds.{variables-count, variables-weighted}
 use Rattle.scene_model.specs.Variables.{variables}
@@ -25,7 +27,9 @@ use Rattle.multiplier_check.specs.Certificate.{fraction_at, IsNear, IsBalanced, 
 use Rattle.multiplier_check.proofs.Law.{certificate_projection, IsLeast-same}
 use Rattle.frame_store.specs.declared.places.Places.{Places}
 use Rattle.doc_book.specs.Frames.{IsFrameOf}
-use Rattle.doc_book.specs.Projection.{weights, Fits, problem_of, IsShown}
+use Rattle.doc_book.specs.Projection.{weights, problem_of, IsShown}
+use Rattle.doc_book.specs.Unconstrained.{IsUnconstrained}
+use Rattle.doc_book.proofs.Unconstrained.{separations-none, Fits-all}
 
 -- the certificate of these places, without multipliers
 abbrev pub at_rest : List ℤ → Certificate
@@ -40,7 +44,16 @@ near_clamped : (vs : List ℤ) → AllByRecursion (λ d. nat_abs d ≤ 2000000) 
 near_clamped [] = tt
 near_clamped (v ∷ vs) = (omega (arith, clamped_near v), near_clamped vs)
 
-bounded : (scene : Diagram) (axis : Axis) (vs : List ℤ) → IsSound scene → length (map clamped vs) ≡ length (variables scene axis) → IsBounded (problem_of scene axis (map clamped vs))
+-- the problem of an axis without separations
+abbrev problem_free : Diagram → Axis → List ℤ → Problem
+problem_free scene axis desired = record { weights = weights scene axis; desired = desired; separations = [] }
+
+-- it is that of a scene without constraints
+problem-free : (scene : Diagram) (axis : Axis) (desired : List ℤ) → IsUnconstrained scene → problem_free scene axis desired ≡ problem_of scene axis desired
+problem-free scene axis desired free =
+    let P : List Sep → Problem = λ seps. record { weights = weights scene axis; desired = desired; separations = seps } in ap P (sym (separations-none scene axis free))
+
+bounded : (scene : Diagram) (axis : Axis) (vs : List ℤ) → IsSound scene → length (map clamped vs) ≡ length (variables scene axis) → IsBounded (problem_free scene axis (map clamped vs))
 bounded scene axis vs sound as_long =
     let few = variables-count {d = scene} axis sound in
     record {
@@ -78,7 +91,7 @@ balanced w vs i = rw (fraction_at-whole vs i) (still (2 * slice_index w i) (slic
         none : (v : ℤ) → v -ℤ v ≡ pos 0
         none v = omega (arith, ints)
 
-pub at_rest_shows : (scene : Diagram) (axis : Axis) (vs : List ℤ) → IsCertificate (problem_of scene axis (map clamped vs)) (at_rest (map clamped vs))
+at_rest_shows : (scene : Diagram) (axis : Axis) (vs : List ℤ) → IsCertificate (problem_free scene axis (map clamped vs)) (at_rest (map clamped vs))
 at_rest_shows scene axis vs = record {
   form = record {
     places_as_long = length-map (map clamped vs) whole;
@@ -96,32 +109,32 @@ at_rest_shows scene axis vs = record {
 
 -- ---- the projection
 
--- where nothing is asked of places, a scene of boxes asks the same
-fits_all : (scene : Diagram) (axis : Axis) (desired : List ℤ) → length desired ≡ length (variables scene axis)
-    → (placement : Placement) → IsPlacement (length desired) placement → Keeps [] placement ↔ Fits scene axis placement
-fits_all scene axis desired as_long placement placed = (
-  λ keeps. record { placed = subst (λ n. IsPlacement n placement) as_long placed },
+-- where no separation is asked of a placement, a scene without constraints asks no more
+fits_all : (scene : Diagram) (axis : Axis) (desired : List ℤ) → IsUnconstrained scene → length desired ≡ length (variables scene axis)
+    → (placement : Placement) → IsPlacement (length desired) placement → Keeps [] placement ↔ Fits scene axis placement.places placement.denominator
+fits_all scene axis desired free as_long placement placed = (
+  λ keeps. Fits-all scene axis placement free placed.above (placed.as_long ∙ as_long),
   λ fits k d below. absurd (omega (arith, below)),
 )
 
-pub is_shown : (scene : Diagram) (axis : Axis) (vs : List ℤ) → IsSound scene → length vs ≡ length (variables scene axis) → IsShown scene axis (map clamped vs) (at_rest (map clamped vs))
-is_shown scene axis vs sound same =
+pub is_shown : (scene : Diagram) (axis : Axis) (vs : List ℤ) → IsSound scene → IsUnconstrained scene → length vs ≡ length (variables scene axis) → IsShown scene axis (map clamped vs) (at_rest (map clamped vs))
+is_shown scene axis vs sound free same =
     let as_long = length-map vs clamped ∙ same in
     let shown = at_rest_shows scene axis vs in
     record {
       projects = record {
         as_long = as_long;
-        least = IsLeast-same (Keeps []) (Fits scene axis) (map clamped vs) (weights scene axis) (fits_all scene axis (map clamped vs) as_long) _
-            (certificate_projection (problem_of scene axis (map clamped vs)) (at_rest (map clamped vs)) (bounded scene axis vs sound as_long) shown);
+        least = IsLeast-same (Keeps []) (λ (p : Placement). Fits scene axis p.places p.denominator) (map clamped vs) (weights scene axis) (fits_all scene axis (map clamped vs) free as_long) _
+            (certificate_projection (problem_free scene axis (map clamped vs)) (at_rest (map clamped vs)) (bounded scene axis vs sound as_long) shown);
       };
-      shown = shown;
+      shown = subst (λ (p : Problem). IsCertificate p (at_rest (map clamped vs))) (problem-free scene axis (map clamped vs) free) shown;
     }
 
 pub is_frame : (scene : Diagram) (places : Places) (xs ys : List ℤ) (x y : Certificate)
-    → IsSound scene → length places.x ≡ length (variables scene X) → length places.y ≡ length (variables scene Y)
+    → IsSound scene → IsUnconstrained scene → length places.x ≡ length (variables scene X) → length places.y ≡ length (variables scene Y)
     → xs ≡ map clamped places.x → ys ≡ map clamped places.y → x ≡ at_rest xs → y ≡ at_rest ys
     → IsFrameOf scene places (record { desired = record { x = xs; y = ys }; x = x; y = y })
-is_frame scene places xs ys x y sound on_x on_y xs_are ys_are x_is y_is = record {
+is_frame scene places xs ys x y sound free on_x on_y xs_are ys_are x_is y_is = record {
   proposed = ap (λ zs. record { x = zs; y = ys }) xs_are ∙ ap (λ zs. record { x = map clamped places.x; y = zs }) ys_are;
   on_x = shown X places.x xs x on_x xs_are x_is;
   on_y = shown Y places.y ys y on_y ys_are y_is;
@@ -129,4 +142,4 @@ is_frame scene places xs ys x y sound on_x on_y xs_are ys_are x_is y_is = record
   where
     shown : (axis : Axis) (vs ds : List ℤ) (c : Certificate) → length vs ≡ length (variables scene axis) → ds ≡ map clamped vs → c ≡ at_rest ds → IsShown scene axis ds c
     shown axis vs ds c same desired_is c_is =
-        subst (λ d. IsShown scene axis ds d) (sym c_is) (subst (λ d. IsShown scene axis d (at_rest d)) (sym desired_is) (is_shown scene axis vs sound same))
+        subst (λ d. IsShown scene axis ds d) (sym c_is) (subst (λ d. IsShown scene axis d (at_rest d)) (sym desired_is) (is_shown scene axis vs sound free same))

@@ -10,4 +10,5 @@ pub mod Listing
 pub mod Projection
 pub mod Replies
 pub mod Spots
+pub mod Unconstrained
 pub mod Verdicts

@@ -101,6 +101,7 @@ counted_word counted.Groups = codes "groups"
 counted_word counted.Compounds = codes "compounds"
 counted_word counted.Pages = codes "pages"
 counted_word counted.Members = codes "members"
+counted_word counted.Seps = codes "seps"
 counted_word counted.Entries = codes "entries"
 
 -- a refusal for want of memory ends the run and has no text

@@ -6,6 +6,7 @@ ghost use Rattle.scene_model.specs.Sound.{IsSound};
 ghost use Rattle.scene_model.specs.Variables.{variables};
 ghost use Rattle.frac128.specs.Fraction.{whole};
 ghost use Rattle.doc_book.specs.Frames.{IsFrameOf};
+ghost use Rattle.doc_book.specs.Unconstrained.{IsUnconstrained};
 
 use frac128::Frac;
 use frame_store::{Desired, Frame, Places};
@@ -17,6 +18,7 @@ use units::{Memory, Sequence, clamp};
 /// The frame of a scene at these places, one for each variable: without links each variable is to stand at its
 /// clamped place, and without constraints it stands there, with no multiplier to push it away.
 pub fn frame_of(alloc: Global, scene: &Scene, places: &Places) -> Result<Frame, Memory>
+    requires free { IsUnconstrained scene.now }
     requires on_x { length places.now.x ≡ length (variables scene.now axes.X) }
     requires on_y { length places.now.y ≡ length (variables scene.now axes.Y) }
     ensures { IfOk result (λ frame. IsFrameOf scene.now places.now frame) }

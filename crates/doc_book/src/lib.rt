@@ -1,13 +1,13 @@
 //! The document: its history, its legal entries, the answers to its callers, and the text of its listing.
 #![tactic(auto)]
 
-pub mod asking;
-pub mod book;
+mod asking;
+mod book;
 mod editing;
-pub mod entries;
+mod entries;
 mod framing;
-pub mod laying;
-pub mod replies;
+mod laying;
+mod replies;
 mod scanning;
 
 pub use asking::{Answer, Spot};

@@ -118,7 +118,7 @@ fn accepted(scene: &mut Scene, edit: Edit) -> Result<(), Fail> {
     if check(scene, &edit).is_err() {
         return Err("accepted".into());
     }
-    if !has_moves_left(scene) {
+    if !has_moves_left(scene, &edit) {
         return Err("moves are left".into());
     }
     apply(scene, edit)?;

@@ -2,8 +2,8 @@
 #![tactic(auto)]
 
 mod carrying;
-pub mod frames;
-pub mod places;
+mod frames;
+mod places;
 
 pub use carrying::carry;
 pub use frames::{Frame, drawn, settled};

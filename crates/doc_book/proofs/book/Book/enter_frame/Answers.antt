@@ -7,8 +7,14 @@ use Rattle.doc_book.specs.History.{places_at}
 use Rattle.doc_book.specs.Kept.{IsKept}
 use Rattle.doc_book.specs.Legal.{HasRoom}
 use Rattle.doc_book.specs.declared.entries.Entry.{Entry}
+use Rattle.doc_book.specs.Unconstrained.{IsUnconstrained}
 use Rattle.doc_book.proofs.Keeping.{IsKept-frame}
+use Rattle.doc_book.proofs.Unconstrained.{IsUnconstrained-legal}
 use Rattle.doc_book.proofs.book.Book.enter_frame.Goals as goal
+
+pub frame_of-requires-clause-free : goal.frame_of-requires-clause-free
+frame_of-requires-clause-free c =
+    subst IsUnconstrained (sym c.self.invariant.scene_is) (IsUnconstrained-legal c.self.inside.budget c.self.inside.history.items c.self.invariant.legal)
 
 pub invariant_of-self-2 : goal.invariant_of-self-2
 invariant_of-self-2 c =

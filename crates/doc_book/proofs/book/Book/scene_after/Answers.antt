@@ -1,6 +1,7 @@
 use Rattle.std.proofs.Common.{◌≡◌, ap, sym, ◌∙◌, subst}
 use Rattle.edit_rules.specs.Effects.{HasFewMoves}
 use Rattle.edit_rules.specs.Refusals.{refusal_of}
+use Rattle.edit_rules.proofs.Changing.{HasFewMoves-left}
 use Rattle.doc_book.specs.History.{scene_at}
 use Rattle.doc_book.specs.Document.{Document}
 use Rattle.doc_book.specs.Verdicts.{verdict}
@@ -19,5 +20,6 @@ pub apply-requires-clause-few : goal.apply-requires-clause-few
 apply-requires-clause-few c =
     let h = c.self.inside.history.items in
     let accepted = ap (λ (d : Document). verdict d.history c.args.edit.now) c.self.view_is ∙ c.requires in
-    subst (HasFewMoves 4294967294) (sym c.in_ok-scene.ensures)
-    (few_moves h c.self.inside.budget c.self.inside.scene c.self.inside.places c.self.inside.settled c.self.invariant (not_ended h c.args.edit.now accepted))
+    HasFewMoves-left c.in_ok-scene.scene c.in_ok-copy.field-0
+    (subst (HasFewMoves 4294967294) (sym c.in_ok-scene.ensures)
+    (few_moves h c.self.inside.budget c.self.inside.scene c.self.inside.places c.self.inside.settled c.self.invariant (not_ended h c.args.edit.now accepted)))
