@@ -1,9 +1,12 @@
 -- The entries of a history, from left to right.
-use Rattle.std.proofs.Common.{◌≡◌, ℕ, ◌+◌, ◌<◌, ◌≤◌, List, [], ◌∷◌, ◌++◌, length, take, drop, get_or, refl, sym, ap, subst, ◌∙◌, zero, suc, arith, ◌^◌}
-use Rattle.std.proofs.lemmas.List.{take_more, drop_more, drop_all}
+use Rattle.std.proofs.Common.{◌≡◌, ℕ, ℤ, ◌+◌, ◌<◌, ◌≤◌, ◌^◌, List, [], ◌∷◌, ◌++◌, length, take, drop, get_or, refl, sym, ap, subst, ◌∙◌, arith}
+use Rattle.std.proofs.lemmas.List.{length-take}
+use Rattle.units.specs.declared.geometry.Axis.{Axis}
+use Rattle.units.specs.declared.geometry.Axis.TheVariants.{X, Y}
 use Rattle.edit_rules.specs.declared.edits.Edit.{Edit}
 use Rattle.edit_rules.specs.Effects.{scene_of}
 use Rattle.scene_model.specs.Diagram.{Diagram}
+use Rattle.multiplier_check.specs.declared.certificate.Certificate.{Certificate}
 use Rattle.doc_book.proofs.Growing.{scene_at-push, scene_of-push}
 use Rattle.doc_book.proofs.Keeping.{few_moves_at}
 use Rattle.doc_book.proofs.Refusing.{scene_accepts}
@@ -13,7 +16,9 @@ use Rattle.doc_book.specs.declared.entries.Act.TheVariants as act
 use Rattle.doc_book.specs.History.{scene_at, standing, edits_after}
 use Rattle.doc_book.specs.Legal.{ActMayFollow, AllMayFollow}
 use Rattle.doc_book.specs.Listing.{text_lines, lines_of, entry_lines}
-use Rattle.listing_text.specs.Steps.{scene_after, IsAccepting}
+use Rattle.doc_book.specs.Projection.{IsShown}
+use Rattle.listing_text.specs.Steps.{scene_after, IsAccepting, HasPlaces, IsPlacing}
+use Rattle.listing_text.proofs.Elements.{rest_of, front_of}
 use Rattle.listing_text.proofs.Lines.{text_lines-append}
 
 -- ---- the scene
@@ -28,25 +33,29 @@ scene_of_after edits act.End = refl
 pub scene_after-push : (h : List Entry) (e : Entry) → scene_at (h ++ e ∷ []) ≡ scene_after (scene_at h) e.act
 scene_after-push h e = scene_at-push h e ∙ scene_of_after (standing h) e.act
 
+-- ---- what may follow
+
 accepts : (h : List Entry) (budget : ℕ) (e : Entry) (a : Act) → length h ≤ 4294967294 → ActMayFollow h budget e a → IsAccepting (scene_at h) a
 accepts h budget e (act.Edit edit) short may = (scene_accepts h edit may.1, few_moves_at h 4294967294 short)
 accepts h budget e (act.Frame f) short may = tt
 accepts h budget e act.End short may = tt
 
-length-take : (h : List Entry) (k : ℕ) → length (take k h) ≤ k
-length-take [] zero = omega arith
-length-take [] (suc k) = omega arith
-length-take (e ∷ es) zero = omega arith
-length-take (e ∷ es) (suc k) = let rest = length-take es k in let one : length (take (suc k) (e ∷ es)) ≡ suc (length (take k es)) = refl in omega arith
+has_places : (scene : Diagram) (axis : Axis) (desired : List ℤ) (certificate : Certificate) → IsShown scene axis desired certificate → HasPlaces scene axis desired certificate
+has_places scene axis desired certificate is = record { wanted = is.projects.as_long; placed = is.shown.form.places_as_long ∙ is.projects.as_long }
+
+placing : (h : List Entry) (budget : ℕ) (e : Entry) (a : Act) → ActMayFollow h budget e a → IsPlacing (scene_at h) a
+placing h budget e (act.Edit edit) may = tt
+placing h budget e (act.Frame f) may = (has_places (scene_at h) X f.desired.x f.x may.1.on_x, has_places (scene_at h) Y f.desired.y f.y may.1.on_y)
+placing h budget e act.End may = tt
 
 -- ---- a step
 
 module _ (h : List Entry) (k : ℕ) (e : Entry) (lt : k < length h) (is : e ≡ get_or h k e) where
   rest : drop k h ≡ e ∷ drop (k + 1) h
-  rest = drop_more h k e lt ∙ ap (λ x. x ∷ drop (k + 1) h) (sym is)
+  rest = rest_of h k e lt is
 
   front : take k h ++ e ∷ [] ≡ take (k + 1) h
-  front = ap (λ x. take k h ++ x ∷ []) is ∙ sym (take_more h k e lt)
+  front = front_of h k e lt is
 
   pub entries_step : text_lines (entry_lines (take k h) k (drop k h))
       ≡ text_lines (lines_of (scene_at (take k h)) k e) ++ text_lines (entry_lines (take (k + 1) h) (k + 1) (drop (k + 1) h))
@@ -65,12 +74,14 @@ module _ (h : List Entry) (k : ℕ) (e : Entry) (lt : k < length h) (is : e ≡ 
   pub legal_here : (budget : ℕ) → length h < 2 ^ 32 → AllMayFollow (take k h) budget (drop k h) → IsAccepting (scene_at (take k h)) e.act
   legal_here budget short legal =
       let all : AllMayFollow (take k h) budget (e ∷ drop (k + 1) h) = subst (λ es. AllMayFollow (take k h) budget es) rest legal in
-      accepts (take k h) budget e e.act (omega (arith, length-take h k, lt, short)) all.0
+      accepts (take k h) budget e e.act (omega (arith, length-take k h, lt, short)) all.0
+
+  pub placing_here : (budget : ℕ) → AllMayFollow (take k h) budget (drop k h) → IsPlacing (scene_at (take k h)) e.act
+  placing_here budget legal =
+      let all : AllMayFollow (take k h) budget (e ∷ drop (k + 1) h) = subst (λ es. AllMayFollow (take k h) budget es) rest legal in
+      placing (take k h) budget e e.act all.0
 
   pub legal_step : (budget : ℕ) → AllMayFollow (take k h) budget (drop k h) → AllMayFollow (take (k + 1) h) budget (drop (k + 1) h)
   legal_step budget legal =
       let all : AllMayFollow (take k h) budget (e ∷ drop (k + 1) h) = subst (λ es. AllMayFollow (take k h) budget es) rest legal in
       subst (λ before. AllMayFollow before budget (drop (k + 1) h)) front all.1
-
-pub entries_end : (h : List Entry) (k : ℕ) → length h ≤ k → text_lines (entry_lines (take k h) k (drop k h)) ≡ []
-entries_end h k le = ap (λ es. text_lines (entry_lines (take k h) k es)) (drop_all k h le)

@@ -16,6 +16,7 @@ use Rattle.script_text.specs.declared.scripts.Line.{Line}
 use Rattle.doc_book.specs.declared.replies.Reply.{Reply}
 use Rattle.doc_book.specs.declared.entries.Entry.{Entry}
 use Rattle.script_text.specs.Grammar.{axis_word}
+use Rattle.listing_text.proofs.Elements.{rest_of}
 use Rattle.doc_book.specs.Listing.{text_line, text_lines, variable_word, fraction_word, place_lines, multiplier_lines, reply_lines, reply_words, session_lines, entry_lines, sessions_lines, listing_text}
 
 pub text_lines-append : (ls ms : List (List Word)) → text_lines (ls ++ ms) ≡ text_lines ls ++ text_lines ms
@@ -40,9 +41,6 @@ behind-append (v ∷ vs) ws = ap (λ bytes. 32 ∷ v ++ bytes) (behind-append vs
 -- a space and words divided by one space
 pub behind_spaced : (w : Word) (ws : List Word) → 32 ∷ spaced (w ∷ ws) ≡ behind (w ∷ ws)
 behind_spaced w ws = ap (λ bytes. 32 ∷ bytes) (spaced_behind w ws)
-
-pub behind_one : (w : Word) → 32 ∷ w ≡ behind (w ∷ [])
-behind_one w = ap (λ bytes. 32 ∷ bytes) (sym (append-nil w))
 
 -- a line that is made from left to right
 pub made_line : (t₀ t₁ t₂ t₃ t₄ t₅ : List ℕ) (a b c : Word) (ws : List Word) → t₁ ≡ t₀ ++ a → t₂ ≡ t₁ ++ 32 ∷ b → t₃ ≡ t₂ ++ 32 ∷ c → t₄ ≡ t₃ ++ behind ws → t₅ ≡ t₄ ++ 10 ∷ []
@@ -77,32 +75,6 @@ pub place_lines_step : (axis : Axis) (vs : List Variable) (ds : List ℤ) (ps : 
     → text_lines (place_lines axis vs ds ps) ≡ text_line (axis_word axis ∷ variable_word v.name ∷ signed_decimal d ∷ fraction_word p ∷ []) ++ text_lines (place_lines axis vs' ds' ps')
 place_lines_step axis vs ds ps v d p vs' ds' ps' a b c = rw (a, b, c) refl
 
-no_variables : (axis : Axis) (ds : List ℤ) (ps : List Fraction) → place_lines axis [] ds ps ≡ []
-no_variables axis ds ps = refl
-
-no_desired : (axis : Axis) (vs : List Variable) (ps : List Fraction) → place_lines axis vs [] ps ≡ []
-no_desired axis [] ps = refl
-no_desired axis (v ∷ vs) ps = refl
-
-no_places : (axis : Axis) (vs : List Variable) (ds : List ℤ) → place_lines axis vs ds [] ≡ []
-no_places axis [] ds = refl
-no_places axis (v ∷ vs) [] = refl
-no_places axis (v ∷ vs) (d ∷ ds) = refl
-
--- no line is left where one of the lists is at its end
-pub no_lines_variables : (axis : Axis) (vs : List Variable) (ds : List ℤ) (ps : List Fraction) → vs ≡ [] → text_lines (place_lines axis vs ds ps) ≡ []
-no_lines_variables axis vs ds ps e = rw e (ap text_lines (no_variables axis ds ps))
-
-pub no_lines_desired : (axis : Axis) (vs : List Variable) (ds : List ℤ) (ps : List Fraction) → ds ≡ [] → text_lines (place_lines axis vs ds ps) ≡ []
-no_lines_desired axis vs ds ps e = rw e (ap text_lines (no_desired axis vs ps))
-
-pub no_lines_places : (axis : Axis) (vs : List Variable) (ds : List ℤ) (ps : List Fraction) → ps ≡ [] → text_lines (place_lines axis vs ds ps) ≡ []
-no_lines_places axis vs ds ps e = rw e (ap text_lines (no_places axis vs ds))
-
--- a list from the k-th fraction on
-fractions_more : (ps : List Fraction) (k : ℕ) (p : Fraction) → k < length ps → p ≡ get_or ps k p → drop k ps ≡ p ∷ drop (k + 1) ps
-fractions_more ps k p below is = drop_more ps k p below ∙ ap (λ q. q ∷ drop (k + 1) ps) (sym is)
-
 -- the lines from a variable on
 pub places_more : (axis : Axis) (vs : List Variable) (ds : List ℤ) (ps : List Fraction) (k at : ℕ) (v : Variable) (p : Fraction)
     → at ≡ k → slice_get vs k ≡ Some v → at < length ds → at < length ps → p ≡ get_or ps at p
@@ -110,9 +82,9 @@ pub places_more : (axis : Axis) (vs : List Variable) (ds : List ℤ) (ps : List 
     ≡ text_line (axis_word axis ∷ variable_word v.name ∷ signed_decimal (get_or ds at (pos 0)) ∷ fraction_word p ∷ [])
     ++ text_lines (place_lines axis (drop (k + 1) vs) (drop (k + 1) ds) (drop (k + 1) ps))
 places_more axis vs ds ps k at v p same here on_d on_p is =
-    let a : drop k vs ≡ v ∷ drop (k + 1) vs = drop_more vs k v (slice_get_within vs k v here) ∙ ap (λ x. x ∷ drop (k + 1) vs) (get_or_from_slice_get vs k v v here) in
+    let a : drop k vs ≡ v ∷ drop (k + 1) vs = rest_of vs k v (slice_get_within vs k v here) (sym (get_or_from_slice_get vs k v v here)) in
     let b : drop k ds ≡ get_or ds at (pos 0) ∷ drop (k + 1) ds = drop_more ds k (pos 0) (omega (arith, same, on_d)) ∙ ap (λ n. get_or ds n (pos 0) ∷ drop (k + 1) ds) (sym same) in
-    let c : drop k ps ≡ p ∷ drop (k + 1) ps = fractions_more ps k p (omega (arith, same, on_p)) (is ∙ ap (λ n. get_or ps n p) same) in
+    let c : drop k ps ≡ p ∷ drop (k + 1) ps = rest_of ps k p (omega (arith, same, on_p)) (is ∙ ap (λ n. get_or ps n p) same) in
     place_lines_step axis (drop k vs) (drop k ds) (drop k ps) v (get_or ds at (pos 0)) p (drop (k + 1) vs) (drop (k + 1) ds) (drop (k + 1) ps) a b c
 
 -- ---- the lines of the multipliers of an axis
@@ -121,7 +93,7 @@ places_more axis vs ds ps k at v p same here on_d on_p is =
 pub multipliers_more : (axis : Axis) (ms : List Fraction) (k : ℕ) (m : Fraction) → k < length ms → m ≡ get_or ms k m → (m.num ≡ pos 0 → ⊥)
     → text_lines (multiplier_lines axis k (drop k ms))
     ≡ text_line (axis_word axis ∷ (35 ∷ decimal k) ∷ fraction_word m ∷ []) ++ text_lines (multiplier_lines axis (k + 1) (drop (k + 1) ms))
-multipliers_more axis ms k m below is other = ap (λ fs. text_lines (multiplier_lines axis k fs)) (fractions_more ms k m below is) ∙ ap text_lines shown
+multipliers_more axis ms k m below is other = ap (λ fs. text_lines (multiplier_lines axis k fs)) (rest_of ms k m below is) ∙ ap text_lines shown
   where
     int_eq-false : (z : ℤ) → (z ≡ pos 0 → ⊥) → int_eq z (pos 0) ≡ false
     int_eq-false z other = by (int_eq z (pos 0)) (Decides-int_eq z (pos 0))
@@ -154,16 +126,6 @@ pub reply_lines_other : (session : ℕ) (ls : List Line) (rs : List Reply) (l : 
     → ls ≡ l ∷ ls' → (l.session ≡ session → ⊥)
     → text_lines (reply_lines session (session_lines session ls) rs) ≡ text_lines (reply_lines session (session_lines session ls') rs)
 reply_lines_other session ls rs l ls' a other = let differ : (l.session == session) ≡ false = ne_eqb l.session session other in rw (a, differ) refl
-
-no_replies : (session : ℕ) (ls : List Line) → reply_lines session ls [] ≡ []
-no_replies session [] = refl
-no_replies session (l ∷ ls) = refl
-
-pub no_lines_replies : (session : ℕ) (ls : List Line) (rs : List Reply) → rs ≡ [] → text_lines (reply_lines session ls rs) ≡ []
-no_lines_replies session ls rs e = rw e (ap text_lines (no_replies session ls))
-
-pub no_lines_session : (session : ℕ) (ls : List Line) (rs : List Reply) → ls ≡ [] → text_lines (reply_lines session (session_lines session ls) rs) ≡ []
-no_lines_session session ls rs e = rw e refl
 
 -- ---- the parts of a listing
 

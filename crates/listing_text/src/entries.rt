@@ -3,7 +3,7 @@ ghost use Rattle.std.specs.Prelude.{◌≡◌, ◌<◌, ◌^◌, ◌∷◌, ◌+
 ghost use Rattle.doc_book.specs.Legal.{IsLegal};
 ghost use Rattle.doc_book.specs.Listing.{act_words, text_line, text_lines, lines_of, entry_lines};
 ghost use Rattle.script_text.specs.Words.{behind};
-ghost use Rattle.listing_text.specs.Steps.{scene_after, IsAccepting};
+ghost use Rattle.listing_text.specs.Steps.{scene_after, IsAccepting, IsPlacing};
 ghost use Rattle.listing_text.specs.Putting.{Puts};
 
 use crate::frames::add_lines_below;
@@ -45,6 +45,7 @@ fn add_entry(alloc: Global, text: &mut Vec<u8>, place: usize, entry: &Entry) -> 
 
 /// The lines of the entry at a place of the history, whose scene is this one.
 fn entry_text(alloc: Global, scene: &Scene, place: usize, entry: &Entry) -> Result<Vec<u8>, Memory>
+    requires { IsPlacing scene.now entry.now.act }
     ensures { IfOk result (λ text. text.items ≡ text_lines (lines_of scene.now place entry.now)) }
 {
     let mut text = Vec::new(alloc);
@@ -72,7 +73,8 @@ fn next_text(
     place: usize,
     entry: &Entry,
 ) -> Result<Vec<u8>, Memory>
-    requires { IsAccepting scene.old entry.now.act }
+    requires accepting { IsAccepting scene.old entry.now.act }
+    requires placing { IsPlacing scene.old entry.now.act }
     ensures text { IfOk result (λ text. text.items ≡ text_lines (lines_of scene.old place entry.now)) }
     ensures scene { OnOk result (scene.new ≡ scene_after scene.old entry.now.act) }
 {
@@ -89,7 +91,8 @@ fn put_entry<K: Sink>(
     entry: &Entry,
     sink: &mut K,
 ) -> Result<(), SinkStop>
-    requires { IsAccepting scene.old entry.now.act }
+    requires accepting { IsAccepting scene.old entry.now.act }
+    requires placing { IsPlacing scene.old entry.now.act }
     ensures puts { Puts (K.put sink.old) (K.put sink.new) (K.faults sink.old) (K.faults sink.new) (text_lines (lines_of scene.old place entry.now)) result }
     ensures scene { OnOk result (scene.new ≡ scene_after scene.old entry.now.act) }
 {

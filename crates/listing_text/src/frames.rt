@@ -1,9 +1,11 @@
 //! The lines of a frame.
-ghost use Rattle.std.specs.Prelude.{◌≡◌, ◌∷◌, ◌++◌, [], decimal, OnOk};
+ghost use Rattle.std.specs.Prelude.{◌≡◌, ◌∷◌, ◌++◌, [], length, decimal, OnOk};
 ghost use Rattle.std.specs.Fmt.{signed_decimal};
 ghost use Rattle.scene_model.specs.Variables.{variables};
 ghost use Rattle.script_text.specs.Grammar.{axis_word};
 ghost use Rattle.doc_book.specs.Listing.{variable_word, fraction_word, text_line, text_lines, place_lines, multiplier_lines, certificate_lines, frame_lines, lines_below};
+ghost use Rattle.listing_text.specs.Steps.{HasPlaces, IsPlacing};
+ghost use Rattle.units.specs.declared.geometry.Axis.TheVariants as axes;
 
 use crate::words::{add_fraction, add_number, add_word, axis_word, begin_with};
 use doc_book::Act;
@@ -60,17 +62,13 @@ fn add_places(
     desired: &[i64],
     places: &[Frac],
 ) -> Result<(), AllocError>
+    requires wanted { length desired.now ≡ length (variables scene.now axis) }
+    requires placed { length places.now ≡ length (variables scene.now axis) }
     ensures { OnOk result (text.new.items ≡ text.old.items
         ++ text_lines (place_lines axis (variables scene.now axis) desired.now places.now)) }
 {
     for var in 0..scene.vars(axis) {
         let at = usize::from(var);
-        if at >= desired.len() {
-            return Ok(());
-        }
-        if at >= places.len() {
-            return Ok(());
-        }
         let variable = scene.variable(axis, var);
         add_place_line(text, axis, &variable.name, desired[at], &places[at])?;
     }
@@ -116,6 +114,7 @@ fn add_certificate(
     desired: &[i64],
     certificate: &Certificate,
 ) -> Result<(), AllocError>
+    requires { HasPlaces scene.now axis desired.now certificate.now }
     ensures { OnOk result (text.new.items ≡ text.old.items
         ++ text_lines (certificate_lines axis scene.now desired.now certificate.now)) }
 {
@@ -125,6 +124,8 @@ fn add_certificate(
 
 /// Adds the lines of a frame of the scene, X before Y.
 fn add_frame(text: &mut Vec<u8>, scene: &Scene, frame: &Frame) -> Result<(), AllocError>
+    requires on_x { HasPlaces scene.now axes.X frame.now.desired.x frame.now.x }
+    requires on_y { HasPlaces scene.now axes.Y frame.now.desired.y frame.now.y }
     ensures { OnOk result (text.new.items ≡ text.old.items ++ text_lines (frame_lines scene.now frame.now)) }
 {
     let desired = &frame.desired;
@@ -134,6 +135,7 @@ fn add_frame(text: &mut Vec<u8>, scene: &Scene, frame: &Frame) -> Result<(), All
 
 /// Adds the lines below an act.
 pub fn add_lines_below(text: &mut Vec<u8>, scene: &Scene, act: &Act) -> Result<(), AllocError>
+    requires { IsPlacing scene.now act.now }
     ensures { OnOk result (text.new.items ≡ text.old.items ++ text_lines (lines_below scene.now act.now)) }
 {
     match act {

@@ -6,6 +6,7 @@ ghost use Rattle.byte_edge.specs.Taken.{TakesPart};
 ghost use Rattle.byte_edge.specs.declared.sink.SinkStop.TheVariants as stop;
 ghost use Rattle.doc_book.specs.Listing.{listing_text};
 ghost use Rattle.listing_text.specs.Putting.{Puts};
+ghost use Rattle.listing_text.specs.Replies.{ScriptHasReplies};
 
 use crate::entries::put_entries;
 use crate::putting::put;
@@ -24,6 +25,7 @@ fn put_listing<K: Sink>(
     replies: &[Sequence<Reply>],
     sink: &mut K,
 ) -> Result<(), SinkStop>
+    requires { ScriptHasReplies script.now replies.now }
     ensures { Puts (K.put sink.old) (K.put sink.new) (K.faults sink.old) (K.faults sink.new) (listing_text script.now book.now.history replies.now) result }
 {
     put(sink, b"listing 1\n")?;
@@ -33,9 +35,9 @@ fn put_listing<K: Sink>(
     put(sink, b"done\n")
 }
 
-/// Writes the listing of a book, a script and the replies to its lines, by session, session 1 first. It names the
-/// variables of a frame by the scene of the history before it. Where a session has more lines than replies, or more
-/// replies than lines, the further ones have no line in the listing; a refusal for want of memory has no text.
+/// Writes the listing of a book, a script and the replies to its lines: a list for each of the eight sessions, session 1
+/// first, with a reply for each line of the session, of which none is a refusal for want of memory. It names the
+/// variables of a frame by the scene of the history before it.
 ///
 /// After a stop the sink has a part of the listing, from the front. `Failed` comes only where a write failed, and
 /// the sink has counted it; `Memory` where memory ran out.
@@ -46,6 +48,7 @@ pub fn write_listing<K: Sink>(
     replies: &[Sequence<Reply>],
     sink: &mut K,
 ) -> Result<(), SinkStop>
+    requires { ScriptHasReplies script.now replies.now }
     ensures whole { OnOk result (K.put sink.new ≡ append_known (K.put sink.old) (listing_text script.now book.now.history replies.now)) }
     ensures part { OnErr result (TakesPart (K.put sink.old) (K.put sink.new) (listing_text script.now book.now.history replies.now)) }
     ensures calm { OnOk result (K.faults sink.new ≡ K.faults sink.old) }

@@ -1,11 +1,12 @@
 //! The lines of the replies.
-ghost use Rattle.std.specs.Prelude.{◌≡◌, ◌∷◌, ◌++◌, [], codes, decimal, IfOk, OnOk};
+ghost use Rattle.std.specs.Prelude.{◌≡◌, ◌∷◌, ◌++◌, [], codes, length, decimal, IfOk, OnOk};
 ghost use Rattle.std.specs.Fmt.{signed_decimal};
 ghost use Rattle.script_text.specs.Commands.{command_words};
 ghost use Rattle.script_text.specs.Grammar.{axis_word};
 ghost use Rattle.doc_book.specs.Listing.{counted_word, refusal_words, spot_words, reply_words, text_line, text_lines, reply_lines, session_lines, sessions_lines};
 ghost use Rattle.script_text.specs.Words.{behind};
 ghost use Rattle.listing_text.specs.Putting.{Puts};
+ghost use Rattle.listing_text.specs.Replies.{SessionsHaveReplies};
 
 use crate::putting::put;
 use crate::words::{add_count, add_number, add_word, axis_word, begin_with};
@@ -27,6 +28,7 @@ fn counted_word(what: Counted) -> &'static [u8]
         Counted::Compounds => b"compounds",
         Counted::Pages => b"pages",
         Counted::Members => b"members",
+        Counted::Seps => b"seps",
         Counted::Entries => b"entries",
     }
 }
@@ -203,6 +205,7 @@ fn put_session<K: Sink>(
     replies: &[Reply],
     sink: &mut K,
 ) -> Result<(), SinkStop>
+    requires { length replies.now ≡ length (session_lines session lines.now) }
     ensures { Puts (K.put sink.old) (K.put sink.new) (K.faults sink.old) (K.faults sink.new)
         (text_lines (reply_lines session (session_lines session lines.now) replies.now)) result }
 {
@@ -211,9 +214,6 @@ fn put_session<K: Sink>(
         let line = &lines[at];
         if usize::from(line.session) != session {
             continue;
-        }
-        if next >= replies.len() {
-            return Ok(());
         }
         put_reply(alloc, session, line, &replies[next], sink)?;
         next += 1;
@@ -228,6 +228,7 @@ pub fn put_replies<K: Sink>(
     replies: &[Sequence<Reply>],
     sink: &mut K,
 ) -> Result<(), SinkStop>
+    requires { SessionsHaveReplies 1 lines.now replies.now }
     ensures { Puts (K.put sink.old) (K.put sink.new) (K.faults sink.old) (K.faults sink.new)
         (text_lines (sessions_lines 1 lines.now replies.now)) result }
 {

@@ -1,8 +1,8 @@
 use Rattle.std.proofs.Common.{◌∙◌, ap, sym, subst}
 use Rattle.std.proofs.lemmas.Result.{err_from_is_err_and}
 use Rattle.scene_model.specs.Diagram.{Diagram}
-use Rattle.listing_text.specs.Steps.{scene_after, IsAccepting}
-use Rattle.listing_text.proofs.History.{entry_put, scene_step, legal_here, legal_step}
+use Rattle.listing_text.specs.Steps.{scene_after, IsAccepting, IsPlacing}
+use Rattle.listing_text.proofs.History.{entry_put, scene_step, legal_here, placing_here, legal_step}
 use Rattle.listing_text.proofs.Puts.{one_more, stopped}
 use Rattle.listing_text.proofs.entries.put_entries.Goals as goal
 
@@ -15,9 +15,15 @@ returns-in_err-put_entry g c =
 
 pub put_entry-requires : goal.put_entry-requires
 put_entry-requires g c =
+    let h = c.args.history.now in
+    let k = c.loop-place.place in
     let e = c.index-history-place.result in
-    subst (λ (s : Diagram). IsAccepting s e.act) (sym c.loop-place.invariant.scene)
-    (legal_here c.args.history.now c.loop-place.place e c.loop-place-test.true c.index-history-place.is c.loop-place.invariant.legal.0 c.requires.short c.loop-place.invariant.legal.1)
+    let legal = c.loop-place.invariant.legal in
+    let same = sym c.loop-place.invariant.scene in
+    record {
+      accepting = subst (λ (s : Diagram). IsAccepting s e.act) same (legal_here h k e c.loop-place-test.true c.index-history-place.is legal.0 c.requires.short legal.1);
+      placing = subst (λ (s : Diagram). IsPlacing s e.act) same (placing_here h k e c.loop-place-test.true c.index-history-place.is legal.0 legal.1);
+    }
 
 pub loop-place-preserved : goal.loop-place-preserved
 loop-place-preserved g c =

@@ -1,27 +1,12 @@
-use Rattle.std.proofs.Common.{◌≡◌, ◌+◌, ◌≤◌, [], ◌∷◌, ◌++◌, length, drop, get_or, ap, ◌∙◌, ℤ, arith, rules, w64, to_z, of_z}
+use Rattle.std.proofs.Common.{◌≡◌, ◌+◌, ◌<◌, [], ◌∷◌, ◌++◌, length, drop, get_or, ap, ◌∙◌, ℤ, arith, rules, w64, to_z, of_z}
 use Rattle.std.specs.Prelude.{pos, FitsSigned}
 use Rattle.std.proofs.lemmas.Int.{to_z-of_z}
 use Rattle.std.specs.Fmt.{signed_decimal}
 use Rattle.script_text.specs.Grammar.{axis_word}
 use Rattle.doc_book.specs.Listing.{variable_word, fraction_word, text_line, text_lines, place_lines}
-use Rattle.std.proofs.lemmas.List.{drop_all}
 use Rattle.scene_model.specs.Variables.{variables}
-use Rattle.listing_text.proofs.Lines.{no_lines_desired, no_lines_places, places_more, grows, is_whole}
+use Rattle.listing_text.proofs.Lines.{places_more, grows}
 use Rattle.listing_text.proofs.frames.add_places.Goals as goal
-
-pub returns-then-at-desired : goal.returns-then-at-desired
-returns-then-at-desired c =
-    let k = c.loop-var.var in
-    let vs = drop k (variables c.args.scene.now c.args.axis) in
-    let past : length c.args.desired.now ≤ k = omega (arith, c.if-at-desired.true, c.from-at.ensures) in
-    is_whole _ _ _ (no_lines_desired c.args.axis vs (drop k c.args.desired.now) (drop k c.args.places.now) (drop_all k c.args.desired.now past)) c.loop-var.invariant
-
-pub returns-then-at-places : goal.returns-then-at-places
-returns-then-at-places c =
-    let k = c.loop-var.var in
-    let vs = drop k (variables c.args.scene.now c.args.axis) in
-    let past : length c.args.places.now ≤ k = omega (arith, c.if-at-places.true, c.from-at.ensures) in
-    is_whole _ _ _ (no_lines_places c.args.axis vs (drop k c.args.desired.now) (drop k c.args.places.now) (drop_all k c.args.places.now past)) c.loop-var.invariant
 
 pub loop-var-preserved : goal.loop-var-preserved
 loop-var-preserved c =
@@ -33,6 +18,8 @@ loop-var-preserved c =
     let d = get_or ds at (pos 0) in
     let line = λ (m : ℤ). text_line (axis_word c.args.axis ∷ variable_word c.variable-variable.result.name ∷ signed_decimal m ∷ fraction_word c.index-places-at.result ∷ []) in
     let fits_d : FitsSigned w64 d = search rules in
+    let on_d : at < length ds = omega arith in
+    let on_p : at < length ps = omega arith in
     let same_d : to_z w64 (of_z w64 d) ≡ d = to_z-of_z w64 d fits_d in
     let passed : c.add_place_line.new.text.items ≡ c.loop-var.text.items ++ line (to_z w64 (of_z w64 d)) = c.in_ok-add_place_line.ensures in
     let grown : c.add_place_line.new.text.items ≡ c.loop-var.text.items ++ line d = passed
@@ -42,5 +29,5 @@ loop-var-preserved c =
     (text_lines (place_lines c.args.axis (drop (k + 1) vs) (drop (k + 1) ds) (drop (k + 1) ps)))
     (c.args.text.now.items ++ text_lines (place_lines c.args.axis vs ds ps))
     grown
-    (places_more c.args.axis vs ds ps k at c.variable-variable.result c.index-places-at.result c.from-at.ensures c.variable-variable.ensures c.if-at-desired.false c.if-at-places.false c.index-places-at.is)
+    (places_more c.args.axis vs ds ps k at c.variable-variable.result c.index-places-at.result c.from-at.ensures c.variable-variable.ensures on_d on_p c.index-places-at.is)
     c.loop-var.invariant
