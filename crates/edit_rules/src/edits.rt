@@ -105,7 +105,7 @@ pub enum Edit {
         gap: i32,
         exact: bool,
     },
-    /// Groups different shapes: they keep so far inside the group's frame.
+    /// Groups different shapes: they keep so far inside the group's edges.
     Group {
         name: Name,
         /// 0 to 10,000 diagram units.

@@ -98,7 +98,7 @@ fn group_shapes(scene: &mut Scene, alloc: Global) -> Result<(), Fail> {
     accepted(scene, put(a, 0, 50, 10, 20))?;
     accepted(scene, put(b, 100, -30, 30, 40))?;
     accepted(scene, put(name(b"c")?, 900, 900, 1, 1))?;
-    accepted(scene, group(name(b"frame")?, 5, members(alloc, &[a, b])?))?;
+    accepted(scene, group(name(b"area")?, 5, members(alloc, &[a, b])?))?;
     // The corners are those of the making.
     let (x, y) = (-500, 0);
     accepted(scene, Edit::Move { name: a, x, y })?;
