@@ -2,6 +2,7 @@
 use Rattle.std.specs.Prelude.{◌≡◌, ℕ, ◌+◌, ◌≤◌, List, [], ◌∷◌, length, take, drop, Some, ⊤}
 use Rattle.std.specs.List.{AllByRecursion}
 use Rattle.script_text.specs.declared.scripts.Line.{Line}
+use Rattle.script_text.specs.Scripts.{last_session}
 use Rattle.doc_book.specs.declared.entries.Entry.{Entry}
 use Rattle.doc_book.specs.declared.replies.Reply.{Reply}
 use Rattle.doc_book.specs.Document.{Document}
@@ -26,15 +27,15 @@ pub record IsRightHistory (budget : ℕ) (document : Document) : Type 0 where
 abbrev pub AreOwnEntries : Document → List (List Reply) → Type 0
 AreOwnEntries document replies = ForSessions 1 (OwnEntriesAre document.history) replies
 
--- there are eight lists of replies, session 1 first, with one reply for each line of the session, right and in order
+-- there is a list of replies for each session, session 1 first, with one reply for each line of the session, right and in order
 pub record HaveRightReplies (document : Document) (script : List Line) (replies : List (List Reply)) : Type 0 where
-  pub eight : length replies ≡ 8
+  pub eight : length replies ≡ last_session
   pub right : ForSessions 1 (λ session rs. AreRightReplies document.history document.budget session 0 (session_lines session script) rs) replies
 
 -- before End sessions alone made entries, End and what follows it are by caller 0, and no reply was given after End
 pub record AreCallers (history : List Entry) (replies : List (List Reply)) : Type 0 where
   pub place : ℕ
   pub ended : end_place history ≡ Some place
-  pub sessions : AllByRecursion (λ (e : Entry). (1 ≤ e.who) × (e.who ≤ 8)) (take place history)
+  pub sessions : AllByRecursion (λ (e : Entry). (1 ≤ e.who) × (e.who ≤ last_session)) (take place history)
   pub run : AllByRecursion (λ (e : Entry). e.who ≡ 0) (drop place history)
   pub before_end : AllByRecursion (AllByRecursion (λ (r : Reply). after_of r ≤ place)) replies

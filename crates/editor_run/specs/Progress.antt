@@ -2,6 +2,7 @@
 use Rattle.std.specs.Prelude.{◌≡◌, ◌⊎◌, ℕ, ◌-◌, ◌≤◌, List, [], ◌∷◌, ◌++◌, length, slice_index_or, slice_set, true, false, Some, None}
 use Rattle.std.specs.List.{AllByRecursion}
 use Rattle.script_text.specs.declared.scripts.Line.{Line}
+use Rattle.script_text.specs.Scripts.{last_session}
 use Rattle.script_text.specs.Keywords.{is_built}
 use Rattle.script_text.specs.Commands.{command_keyword}
 use Rattle.doc_book.specs.declared.entries.Entry.{Entry}
@@ -28,12 +29,12 @@ pub record PlaysLine (old new : Document) (line : Line) (reply : Reply) : Type 0
 
 -- a line of a session 1 to 8, of a command that is built
 abbrev pub IsSessionLine : Line → Type 0
-IsSessionLine l = (1 ≤ l.session) × (l.session ≤ 8) × (is_built (command_keyword l.command) ≡ true)
+IsSessionLine l = (1 ≤ l.session) × (l.session ≤ last_session) × (is_built (command_keyword l.command) ≡ true)
 
 -- an entry of a session 1 to 8 that isn't End
 pub record IsSessionEntry (e : Entry) : Type 0 where
   pub first : 1 ≤ e.who
-  pub last : e.who ≤ 8
+  pub last : e.who ≤ last_session
   pub open_entry : is_end e ≡ false
 
 -- the lists of replies with one reply more for a session
@@ -50,5 +51,5 @@ pub record HasReplies (document : Document) (lines : List Line) (session : ℕ) 
 -- lines were played from the empty history on, each for its session; there is a list of replies for each session
 pub record HasPlayed (document : Document) (lines : List Line) (lists : List (List Reply)) : Type 0 where
   pub entries : AllByRecursion IsSessionEntry document.history
-  pub eight : length lists ≡ 8
+  pub eight : length lists ≡ last_session
   pub each : ForSessions 1 (HasReplies document lines) lists

@@ -13,4 +13,3 @@ pub use input::MOST_BYTES;
 pub use outcome::{Fault, Outcome};
 pub use plan::Plan;
 pub use running::{run, run_alone};
-

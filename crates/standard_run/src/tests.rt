@@ -172,11 +172,7 @@ fn faulty_scripts(rt: HostRuntime) -> Result<(), Fail> {
     }
     fails(&rt, long_line(alloc)?, "3 line 2: Long")?;
     fails(&rt, many_lines(alloc)?, "3 line 2002: TooMany")?;
-    fails(
-        &rt,
-        vec![in alloc; b'a'; 1_048_577]?,
-        "7 input too long",
-    )
+    fails(&rt, vec![in alloc; b'a'; 1_048_577]?, "7 input too long")
 }
 
 /// Plays the script of the first box over a source and a sink whose listed calls fail, with these words behind the
@@ -214,7 +210,13 @@ fn owned(alloc: Global, words: &[&str]) -> Result<Vec<String>, AllocError> {
 fn failing_ends(rt: HostRuntime) -> Result<(), Fail> {
     stops(&rt, &["dunnart"], &[1], &[], "4 source failed")?;
     stops(&rt, &["dunnart"], &[], &[1], "6 sink failed")?;
-    stops(&rt, &["dunnart", "--workers", "9"], &[1], &[1], "2 words refused")
+    stops(
+        &rt,
+        &["dunnart", "--workers", "9"],
+        &[1],
+        &[1],
+        "2 words refused",
+    )
 }
 
 #[test]
