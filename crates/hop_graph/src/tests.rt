@@ -1,0 +1,131 @@
+//! What no clause says: that with ample memory a table is made, and what it is of a chain of 62 shapes and one alone.
+ghost use Rattle.std.specs.Prelude.{◌≡◌, ◌<◌, length};
+ghost use Rattle.scene_model.specs.Sound.{IsShape};
+
+use crate::{HopTable, hops};
+use scene_model::{Form, Link, Scene, Shape, Sort, Thing, Wanted};
+use std::alloc::Global;
+use std::test::Fail;
+use units::Name;
+
+/// A name of a letter and two digits.
+fn named(letter: u8, number: u8) -> Result<Name, Fail>
+    requires { number < 100 }
+{
+    Ok(Name::of(&[letter, b'0' + number / 10, b'0' + number % 10]).ok_or("a name")?)
+}
+
+/// A box of 10 by 10 at (0, 0).
+fn a_box(name: Name) -> Shape
+    ensures { IsShape result }
+{
+    Shape {
+        name,
+        form: Form::Box,
+        x: 0,
+        y: 0,
+        w: 10,
+        h: 10,
+        held: false,
+        moves: 0,
+    }
+}
+
+/// Adds a box, which has a new name and for which there is room.
+fn add(scene: &mut Scene, shape: Shape) -> Result<(), Fail>
+    requires { IsShape shape }
+{
+    if scene.lookup(&shape.name).is_some() {
+        return Err("a new name".into());
+    }
+    if scene.count(Sort::Shape) >= 128 {
+        return Err("room".into());
+    }
+    scene.add(Thing::Shape(shape))?;
+    Ok(())
+}
+
+/// Adds a link between two shapes that stand; it has a new name, and there is room for it.
+fn add_link(scene: &mut Scene, link: Link) -> Result<(), Fail> {
+    if scene.lookup(&link.name).is_some() {
+        return Err("a new name".into());
+    }
+    if scene.count(Sort::Link) >= 256 {
+        return Err("room".into());
+    }
+    if link.a == link.b {
+        return Err("two names".into());
+    }
+    if !scene.stands_as(Wanted::Shape, &link.a) {
+        return Err("a shape".into());
+    }
+    if !scene.stands_as(Wanted::Shape, &link.b) {
+        return Err("a shape".into());
+    }
+    scene.add(Thing::Link(link))?;
+    Ok(())
+}
+
+/// Links two boxes of the chain.
+fn join(scene: &mut Scene, letter: u8, from: u8, to: u8) -> Result<(), Fail>
+    requires from { from < 100 }
+    requires to { to < 100 }
+{
+    add_link(
+        scene,
+        Link {
+            name: named(letter, from)?,
+            a: named(b's', from)?,
+            b: named(b's', to)?,
+        },
+    )
+}
+
+/// A chain of 62 boxes, and one alone. The first two are linked twice, in both directions.
+fn chain(scene: &mut Scene) -> Result<(), Fail> {
+    for number in 0..63u8 {
+        add(scene, a_box(named(b's', number)?))?;
+    }
+    for number in 0..61u8 {
+        join(scene, b'l', number, number + 1)?;
+    }
+    join(scene, b'm', 1, 0)
+}
+
+/// The hop distance of two shapes of the table.
+fn told(table: &HopTable, scene: &Scene, i: u16, j: u16) -> Option<u8>
+    requires { length table.now ≡ length scene.now.shapes }
+{
+    if i >= scene.count(Sort::Shape) || j >= scene.count(Sort::Shape) {
+        return None;
+    }
+    table.get(i, j)
+}
+
+/// Whether the table of the chain tells the distances along it, up to 60.
+fn is_chain_told(scene: &Scene, alloc: Global) -> Result<bool, Fail> {
+    let table = hops(alloc, scene)?;
+    Ok(
+        told(&table, scene, 0, 0) == Some(0)
+            && told(&table, scene, 0, 1) == Some(1)
+            && told(&table, scene, 0, 60) == Some(60)
+            && told(&table, scene, 0, 61).is_none()
+            && told(&table, scene, 61, 1) == Some(60)
+            && told(&table, scene, 30, 62).is_none(),
+    )
+}
+
+/// Makes the chain and looks at its table.
+fn fill_and_tell(scene: &mut Scene, alloc: Global) -> Result<(), Fail> {
+    chain(scene)?;
+    if !is_chain_told(scene, alloc)? {
+        return Err("distances".into());
+    }
+    Ok(())
+}
+
+#[test]
+fn a_chain_of_62_shapes(rt: HostRuntime) -> Result<(), Fail> {
+    let mut scene = Scene::empty(rt.alloc());
+    fill_and_tell(&mut scene, rt.alloc())
+}
