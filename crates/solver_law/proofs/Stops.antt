@@ -71,7 +71,7 @@ sum_not_below (suc n) f h =
     let rest = sum_not_below n (λ i. f (suc i)) (λ i b. h (suc i) (omega arith)) in
     omega (arith, ints, here, rest)
 
-sum_above : (n j : ℕ) (f : ℕ → ℤ) → j < n → ((i : ℕ) → i < n → pos 0 ≤ℤ f i) → pos 0 <ℤ f j → pos 0 <ℤ sum_to n f
+pub sum_above : (n j : ℕ) (f : ℕ → ℤ) → j < n → ((i : ℕ) → i < n → pos 0 ≤ℤ f i) → pos 0 <ℤ f j → pos 0 <ℤ sum_to n f
 sum_above zero j f b h a = absurd (omega arith)
 sum_above (suc n) zero f b h a =
     let rest = sum_not_below n (λ i. f (suc i)) (λ i b. h (suc i) (omega arith)) in

@@ -1,0 +1,13 @@
+pub mod Stopping
+pub mod Directions
+pub mod Choosing
+pub mod Escape
+pub mod Deciding
+pub mod Lists
+pub mod Beginning
+pub mod Touching
+pub mod Mirrors
+pub mod Placing
+pub mod Standing
+pub mod Moving
+pub mod Potential

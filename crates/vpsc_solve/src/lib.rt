@@ -1,0 +1,10 @@
+//! The block solver: the exact weighted least-squares projection on separation constraints.
+#![tactic(auto)]
+
+pub mod closing;
+pub mod mirror;
+pub mod next;
+pub mod places;
+pub mod solve;
+pub mod stops;
+pub mod violations;
