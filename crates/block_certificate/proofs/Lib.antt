@@ -1,0 +1,4 @@
+pub mod LowestTerms
+pub mod Certifying
+pub mod Resting
+pub mod Settling

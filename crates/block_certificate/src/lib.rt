@@ -1,0 +1,4 @@
+//! The certificate of a list of active separations whose state at rest solves a problem.
+#![tactic(auto)]
+
+pub mod certificate;
