@@ -11,3 +11,4 @@ pub mod Placing
 pub mod Standing
 pub mod Moving
 pub mod Potential
+pub mod Starting

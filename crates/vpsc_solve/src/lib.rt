@@ -6,5 +6,6 @@ pub mod mirror;
 pub mod next;
 pub mod places;
 pub mod solve;
+pub mod start;
 pub mod stops;
 pub mod violations;

@@ -3,14 +3,19 @@ ghost use Rattle.std.specs.Prelude.{◌≡◌, ◌<◌, [], ℕ, ℤ, length, If
 ghost use Rattle.block_sums.specs.Solving.{Active, IsActive};
 ghost use Rattle.block_sums.specs.Rest.{exact_of, HasRest, IsSolved};
 ghost use Rattle.vpsc_solve.specs.Stops.{IsFeasible, HasClosed, DiffersAt, IsViolation};
+ghost use Rattle.multiplier_check.specs.Placement.{IsProjection};
+ghost use Rattle.multiplier_check.specs.Certificate.{IsCertificate};
 ghost use Rattle.vpsc_solve.specs.Places.{ArePlaced};
 
 use crate::closing::close_gap;
 use crate::mirror::turned_problem;
 use crate::places::{Place, settle};
+use crate::start::all_places;
 use crate::violations::{Violation, first_violated};
+use block_certificate::certificate::certificate_of;
+use multiplier_check::certificate::Certificate;
 use std::alloc::{AllocError, Global};
-use units::Problem;
+use units::{Memory, Problem};
 
 /// Closes the gap of an exact separation whose ends stand too far apart, as its mirror image.
 fn close_mirrored(
@@ -87,4 +92,34 @@ pub fn close_all(
             }
         }
     }
+}
+
+/// The active list at the end, begun with no active separation: each variable stands at its desired place.
+fn solved_list(alloc: Global, problem: &Problem) -> Result<Vec<u16>, AllocError>
+    requires { IsFeasible problem.now }
+    ensures active { IfOk result (λ active. IsActive problem.now active.items) }
+    ensures solved { IfOk result (λ active. IsSolved problem.now active.items) }
+{
+    let mut active = Vec::new(alloc);
+    let mut places = all_places(alloc, problem, &active)?;
+    close_all(alloc, problem, &mut active, &mut places)?;
+    Ok(active)
+}
+
+/// The projection of a problem: of all placements that satisfy its separations the one of least weighted squared distance from the
+/// desired places, with a certificate that shows it. Some placement has to satisfy the separations; `cycle_test::test` tells.
+/// Answers `Memory` for want of memory alone. It always returns: the cost rises with each closing.
+///
+/// The method is the dual active-set one of "Fast Node Overlap Removal" (Dwyer, Marriott and Stuckey 2005), in exact arithmetic. It
+/// starts at the desired places with no active separation and closes one violated separation after another by a force on its ends,
+/// dropping active ones that aren't exact where their multipliers fall to 0.
+pub fn solve(alloc: Global, problem: &Problem) -> Result<Certificate, Memory>
+    requires { IsFeasible problem.now }
+    ensures shows { IfOk result (IsCertificate problem.now) }
+    ensures projection { IfOk result (λ certificate. IsProjection problem.now certificate.places) }
+{
+    // Asked for what its type keeps, which the proof needs.
+    let _seps = problem.seps();
+    let active = solved_list(alloc, problem)?;
+    Ok(certificate_of(alloc, problem, &active)?)
 }
