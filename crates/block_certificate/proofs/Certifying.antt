@@ -20,7 +20,7 @@ use Rattle.multiplier_check.specs.Check.{touching}
 use Rattle.multiplier_check.proofs.Over.{IsOver, IsOver-numerator_over, HasDen, AreOver, over_common, over_at, at_from_all, over_total, length-numerators_over, over_times, over_less, over_minus, same_from_over, same_value, cancel, dens, den_at}
 use Rattle.multiplier_check.proofs.Slacks.{room, sign_ge, sign_zero, keeps_from_room}
 use Rattle.multiplier_check.proofs.Zips.{zip_from_index}
-use Rattle.block_sums.specs.Ends.{no_separation, separation_at}
+use Rattle.units.specs.Separation.{no_separation, separation_at}
 use Rattle.block_sums.specs.Solving.{Active}
 use Rattle.block_sums.specs.Rest.{IsRest, IsKept}
 use Rattle.block_certificate.proofs.LowestTerms.{lowest-divides}

@@ -9,7 +9,8 @@ use Rattle.frac128.specs.Fraction.{Fraction, pos-nat_abs}
 use Rattle.frac128.proofs.Ring.{dif_of, dif_pos, difs, dif_same, times_assoc}
 use Rattle.multiplier_check.proofs.Over.{cancel}
 use Rattle.block_sums.specs.declared.legs.Leg.{Leg}
-use Rattle.block_sums.specs.Ends.{separation_at, end_of}
+use Rattle.units.specs.Separation.{separation_at}
+use Rattle.block_sums.specs.Ends.{end_of}
 use Rattle.block_sums.specs.Legs.{no_leg, leg_at, variable_at, IsTree, IsReached, IsBlockTree}
 use Rattle.block_sums.specs.Loads.{load_at, sum_of, weight_of, moment_of}
 use Rattle.block_sums.specs.Solving.{Active, IsActive, IsSweep, TellsRest, signed}

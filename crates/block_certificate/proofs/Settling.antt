@@ -18,7 +18,7 @@ use Rattle.multiplier_check.proofs.Slacks.{sign_zero}
 use Rattle.std.proofs.lemmas.List.{length-replicate}
 use Rattle.solver_law.specs.State.{Point}
 use Rattle.block_sums.specs.declared.legs.Leg.{Leg}
-use Rattle.block_sums.specs.Ends.{no_separation, separation_at}
+use Rattle.units.specs.Separation.{no_separation, separation_at}
 use Rattle.block_sums.specs.Legs.{leg_at, variable_at}
 use Rattle.block_sums.specs.Solving.{Active, IsResting}
 use Rattle.block_sums.proofs.Rooted.{IsVia}

@@ -5,7 +5,7 @@ use Rattle.frac128.specs.Fraction.{Fraction, whole, ◌≈◌, IsLowest}
 use Rattle.multiplier_check.specs.Certificate.{fraction_at}
 use Rattle.solver_law.specs.State.{Point}
 use Rattle.block_sums.specs.declared.legs.Leg.{Leg}
-use Rattle.block_sums.specs.Ends.{separation_at}
+use Rattle.units.specs.Separation.{separation_at}
 use Rattle.block_sums.specs.Legs.{leg_at, variable_at}
 use Rattle.block_sums.specs.Loads.{load_at}
 use Rattle.block_sums.specs.Solving.{Active, IsResting, rest_at}

@@ -14,7 +14,7 @@ use block_sums::chains::{Chains, chain};
 use block_sums::stops::rest_at;
 use block_sums::sweep::{Block, sweep};
 use frac128::Frac;
-use multiplier_check::certificate::Certificate;
+use multiplier_check::Certificate;
 use std::alloc::{AllocError, Global};
 use units::{Problem, Sequence};
 

@@ -11,7 +11,7 @@ use Rattle.solver_law.specs.Forest.{With}
 use Rattle.solver_law.proofs.Ring.{dif_of, dif_pos, difs, dif_same}
 use Rattle.solver_law.proofs.Sums.{put_at-same, put_at-other}
 use Rattle.block_sums.specs.declared.legs.Leg.{Leg}
-use Rattle.block_sums.specs.Ends.{no_separation, separation_at}
+use Rattle.units.specs.Separation.{no_separation, separation_at}
 use Rattle.block_sums.specs.Legs.{no_leg, leg_at, variable_at, IsReached, IsBlockTree}
 use Rattle.block_sums.specs.Loads.{load_at, hanging, sizes, sum_of, IsGathered, weight_of, moment_of, mark_of}
 use Rattle.block_sums.specs.Solving.{givens_of, Active, IsActive, IsResting, IsSweep, AreMarks, TellsRest, TellsStates, HasPlace, HasMultiplier, rest_at, share_at}

@@ -4,7 +4,7 @@ use Rattle.units.specs.Problem.{Problem}
 use Rattle.solver_law.specs.State.{Point}
 use Rattle.solver_law.specs.Closing.{AtRest}
 use Rattle.solver_law.specs.Cost.{lack}
-use Rattle.block_sums.specs.Ends.{separation_at}
+use Rattle.units.specs.Separation.{separation_at}
 use Rattle.block_sums.specs.Solving.{givens_of, Active}
 
 -- whether a separation is exact, by its number

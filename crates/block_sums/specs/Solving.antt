@@ -4,7 +4,7 @@ use Rattle.units.specs.Problem.{Problem}
 use Rattle.solver_law.specs.State.{Givens, Point, IsState}
 use Rattle.solver_law.specs.Forest.{With, IsForest}
 use Rattle.block_sums.specs.declared.legs.Leg.{Leg}
-use Rattle.block_sums.specs.Ends.{separation_at}
+use Rattle.units.specs.Separation.{separation_at}
 use Rattle.block_sums.specs.Legs.{IsBlockTree, leg_at, variable_at}
 use Rattle.block_sums.specs.Loads.{load_at, IsGathered, weight_of, moment_of, mark_of}
 

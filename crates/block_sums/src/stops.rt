@@ -1,7 +1,7 @@
 //! The force at which the growth of a force on a separation stops.
 ghost use Rattle.std.specs.Prelude.{◌≡◌, ◌<◌, ◌≤◌, ◌*◌, ◌^◌, ◌↔◌, ℕ, length, pos, neg_ℤ, ◌*ℤ◌, ◌-ℤ◌, ◌+ℤ◌, ◌<ℤ◌, ◌≤ℤ◌, nat_abs, IsTrue, true, false, Some, IfSome};
 ghost use Rattle.std.specs.List.{All};
-ghost use Rattle.block_sums.specs.Ends.{separation_at};
+ghost use Rattle.units.specs.Separation.{separation_at};
 ghost use Rattle.block_sums.specs.Legs.{leg_at};
 ghost use Rattle.block_sums.specs.Loads.{load_at};
 ghost use Rattle.block_sums.specs.Solving.{IsBounded, AreSmall, signed, rest_at, share_at};

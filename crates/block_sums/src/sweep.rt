@@ -1,7 +1,8 @@
 //! The sums of a block, in one sweep.
 ghost use Rattle.std.specs.Prelude.{◌≡◌, ◌≢◌, ◌<◌, ◌≤◌, ◌*◌, ◌^◌, ℕ, length, IfOk, true, false, nat_abs, pos, ◌<ℤ◌};
 ghost use Rattle.std.specs.List.{All};
-ghost use Rattle.block_sums.specs.Ends.{separation_at, end_at, IsChained};
+ghost use Rattle.units.specs.Separation.{separation_at};
+ghost use Rattle.block_sums.specs.Ends.{end_at, IsChained};
 ghost use Rattle.block_sums.specs.Legs.{leg_at};
 ghost use Rattle.block_sums.specs.Loads.{load_at, sizes, sum_of, IsGathered};
 ghost use Rattle.block_sums.specs.Solving.{Active, IsActive, IsSweep, IsBounded, TellsRest, AreMarks, AreSmall, TellsStates};

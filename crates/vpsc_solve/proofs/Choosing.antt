@@ -8,7 +8,7 @@ use Rattle.solver_law.specs.State.{Givens, Point, IsState}
 use Rattle.solver_law.specs.Forest.{With}
 use Rattle.solver_law.proofs.Signs.{not-below-of, times-not-below}
 use Rattle.block_sums.specs.declared.legs.Leg.{Leg}
-use Rattle.block_sums.specs.Ends.{separation_at}
+use Rattle.units.specs.Separation.{separation_at}
 use Rattle.block_sums.specs.Legs.{leg_at}
 use Rattle.block_sums.specs.Loads.{load_at}
 use Rattle.block_sums.specs.Solving.{givens_of, Active, TellsStates, HasMultiplier, rest_at, share_at}

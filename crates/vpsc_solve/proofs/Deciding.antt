@@ -17,7 +17,7 @@ use Rattle.solver_law.proofs.Stops.{Weighs}
 use Rattle.solver_law.proofs.Forest.{joins-more}
 use Rattle.block_sums.specs.declared.legs.Leg.{Leg}
 use Rattle.block_sums.specs.declared.stops.Threshold.{Threshold}
-use Rattle.block_sums.specs.Ends.{no_separation, separation_at}
+use Rattle.units.specs.Separation.{no_separation, separation_at}
 use Rattle.block_sums.specs.Legs.{no_leg, leg_at, variable_at, IsReached, IsBlockTree}
 use Rattle.block_sums.specs.Loads.{load_at}
 use Rattle.block_sums.specs.Solving.{givens_of, Active, IsActive, IsSweep, AreMarks, TellsStates, rest_at, share_at}

@@ -16,7 +16,8 @@ use Rattle.solver_law.proofs.Inside.{turning, turn}
 use Rattle.solver_law.proofs.Response.{IsJoined, AreBlocks, Feed, answering, response, feed, count_in, weight_in}
 use Rattle.solver_law.proofs.Lists.{IsIn, AllDiffer, count-out, count-once}
 use Rattle.block_sums.specs.declared.legs.Leg.{Leg}
-use Rattle.block_sums.specs.Ends.{separation_at, end_of}
+use Rattle.units.specs.Separation.{separation_at}
+use Rattle.block_sums.specs.Ends.{end_of}
 use Rattle.std.specs.Prelude.{slice_index}
 use Rattle.std.proofs.lemmas.List.{get_or_default}
 use Rattle.solver_law.proofs.Forest.{joins-back, joins-more}

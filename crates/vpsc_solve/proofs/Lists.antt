@@ -7,7 +7,7 @@ use Rattle.solver_law.specs.State.{Givens, Point, IsState}
 use Rattle.solver_law.specs.Forest.{Joins, With, Without, IsForest}
 use Rattle.solver_law.proofs.Forest.{joins-more, forest-with}
 use Rattle.solver_law.proofs.Closing.{InClosing, AtRest, Closed}
-use Rattle.block_sums.specs.Ends.{separation_at}
+use Rattle.units.specs.Separation.{separation_at}
 use Rattle.block_sums.specs.Solving.{givens_of, Active, IsActive}
 use Rattle.vpsc_solve.specs.Stops.{NextClosing, NextRest, IsUnderWay, HasClosed, IsStop}
 use Rattle.block_sums.specs.Rest.{exact_of}

@@ -13,7 +13,7 @@ use Rattle.solver_law.specs.Closing.{AtRest}
 use Rattle.solver_law.specs.Cost.{cost, lack}
 use Rattle.solver_law.proofs.Ring.{dif_of, dif_pos, difs, dif_same}
 use Rattle.solver_law.proofs.Mirror.{IsMirror, turned, mirror-back, mirror-rest, mirror-cost, mirror-lack, mirror-forest}
-use Rattle.block_sums.specs.Ends.{no_separation, separation_at}
+use Rattle.units.specs.Separation.{no_separation, separation_at}
 use Rattle.block_sums.specs.Solving.{givens_of, Active, IsActive}
 use Rattle.block_sums.specs.Rest.{exact_of, IsRest}
 use Rattle.vpsc_solve.specs.Stops.{IsFeasible, IsUnderWay, HasClosed, IsViolation, AreTouched, DiffersAt}

@@ -8,7 +8,8 @@ use Rattle.solver_law.specs.Step.{Step}
 use Rattle.solver_law.specs.Forest.{Joins, Leads, start, finish}
 use Rattle.solver_law.proofs.Forest.{joins-self, joins-step, joins-then, joins-back, joins-more}
 use Rattle.block_sums.specs.declared.legs.Leg.{Leg}
-use Rattle.block_sums.specs.Ends.{separation_at, active_at, end_of, end_at}
+use Rattle.units.specs.Separation.{separation_at}
+use Rattle.block_sums.specs.Ends.{active_at, end_of, end_at}
 use Rattle.block_sums.specs.Legs.{leg_at, variable_at, IsLeg, IsTree, IsReached, IsBlockTree}
 use Rattle.block_sums.specs.Solving.{givens_of, Active, IsSweep}
 use Rattle.block_sums.proofs.Rooted.{IsVia, joined-root, via-active}

@@ -11,7 +11,7 @@ use Rattle.solver_law.specs.State.{Point}
 use Rattle.solver_law.specs.Cost.{cost, lack}
 use Rattle.solver_law.proofs.Ring.{dif_of, dif_pos, difs, dif_same}
 use Rattle.solver_law.proofs.Signs.{not-below-of, above-of, times-above, times-not-below}
-use Rattle.block_sums.specs.Ends.{no_separation, separation_at}
+use Rattle.units.specs.Separation.{no_separation, separation_at}
 use Rattle.block_sums.specs.Legs.{leg_at, variable_at}
 use Rattle.block_sums.specs.Loads.{load_at}
 use Rattle.block_sums.specs.Solving.{givens_of, Active, IsActive, IsResting}

@@ -4,7 +4,7 @@ use Rattle.std.specs.List.{All, Contains}
 use Rattle.std.proofs.lemmas.Bool.{eqb-false}
 use Rattle.units.specs.Problem.{Problem, IsSeparation}
 use Rattle.units.specs.Problem as stated
-use Rattle.block_sums.specs.Ends.{no_separation, separation_at}
+use Rattle.units.specs.Separation.{no_separation, separation_at}
 use Rattle.block_sums.specs.Solving.{Active}
 use Rattle.vpsc_solve.specs.Stops.{AreTouched, DiffersAt}
 use Rattle.vpsc_solve.proofs.Lists.{here, later, here-or-later, left-over, keeps-over, pushed-has, has-pushed}

@@ -2,7 +2,7 @@
 use Rattle.std.specs.Prelude.{ℕ, neg_ℤ, slice_set}
 use Rattle.units.specs.declared.geometry.Sep.{Sep}
 use Rattle.units.specs.Problem.{Problem}
-use Rattle.block_sums.specs.Ends.{separation_at}
+use Rattle.units.specs.Separation.{separation_at}
 
 -- from its right to its left end, with its gap negated
 abbrev pub turned_separation : Sep → Sep

@@ -6,7 +6,7 @@ use Rattle.solver_law.specs.State.{Givens, Point, IsState}
 use Rattle.solver_law.specs.Forest.{Joins, With, Without}
 use Rattle.solver_law.specs.Cost.{cost, lack}
 use Rattle.solver_law.specs.Closing.{InClosing, Closed, AtRest}
-use Rattle.block_sums.specs.Ends.{separation_at}
+use Rattle.units.specs.Separation.{separation_at}
 use Rattle.block_sums.specs.Solving.{givens_of, Active}
 use Rattle.block_sums.specs.Rest.{exact_of, IsRest}
 use Rattle.block_sums.specs.declared.stops.Threshold.{Threshold}

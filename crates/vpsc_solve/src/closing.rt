@@ -1,7 +1,7 @@
 //! One closing: stops until the gap of a separation is closed.
 ghost use Rattle.std.specs.Prelude.{◌≡◌, ◌<◌, ◌≤◌, ◌==◌, ◌++◌, ◌∷◌, [], ℕ, ℤ, length, IfOk, filter, not};
 ghost use Rattle.units.specs.Problem.{IsSeparation};
-ghost use Rattle.block_sums.specs.Ends.{separation_at};
+ghost use Rattle.units.specs.Separation.{separation_at};
 ghost use Rattle.block_sums.specs.Solving.{Active, IsActive};
 ghost use Rattle.vpsc_solve.specs.Stops.{IsFeasible, IsUnderWay, HasClosed, DiffersAt};
 

@@ -13,7 +13,7 @@ use crate::places::{Place, settle};
 use crate::start::all_places;
 use crate::violations::{Violation, first_violated};
 use block_certificate::certificate::certificate_of;
-use multiplier_check::certificate::Certificate;
+use multiplier_check::Certificate;
 use std::alloc::{AllocError, Global};
 use units::{Memory, Problem};
 

@@ -5,7 +5,7 @@ use Rattle.units.specs.Problem.{Problem}
 use Rattle.units.specs.Problem as stated
 use Rattle.block_sums.specs.declared.legs.Leg.{Leg}
 use Rattle.block_sums.specs.declared.stops.Threshold.{Threshold}
-use Rattle.block_sums.specs.Ends.{no_separation, separation_at}
+use Rattle.units.specs.Separation.{no_separation, separation_at}
 use Rattle.block_sums.specs.Legs.{IsReached}
 use Rattle.block_sums.specs.Loads.{load_at}
 use Rattle.block_sums.specs.Solving.{IsSweep, AreMarks, TellsStates}

@@ -2,7 +2,7 @@ use Rattle.std.proofs.Common.{◌≡◌, ◌<◌, ◌+◌, ℕ, List, Bool, true
 use Rattle.std.proofs.lemmas.Bool.{eqb-false}
 use Rattle.units.specs.declared.geometry.Sep.{Sep}
 use Rattle.units.specs.Problem.{Problem}
-use Rattle.block_sums.specs.Ends.{separation_at}
+use Rattle.units.specs.Separation.{separation_at}
 use Rattle.vpsc_solve.specs.declared.places.Place.{Place}
 use Rattle.vpsc_solve.specs.Places.{place_at, IsBroken, IsBrokenAt}
 use Rattle.vpsc_solve.proofs.violations.first_violated.Goals as goal
