@@ -4,3 +4,4 @@ pub mod Loads
 pub mod Solving
 pub mod Stops
 pub mod Rest
+pub mod Blocks

@@ -23,7 +23,7 @@ pub struct Threshold {
 }
 
 /// The product of a moment and a weight.
-fn product(moment: i64, weight: i64) -> i128
+pub(crate) fn product(moment: i64, weight: i64) -> i128
     requires moment { nat_abs moment ≤ 66822000000000 }
     requires weight { nat_abs weight ≤ 258000 }
     ensures value { result ≡ moment *ℤ weight }
@@ -33,7 +33,7 @@ fn product(moment: i64, weight: i64) -> i128
 }
 
 /// Twice the difference of two products.
-fn twice_less(first: i128, second: i128) -> i128
+pub(crate) fn twice_less(first: i128, second: i128) -> i128
     requires first { nat_abs first ≤ 17240076000000000000 }
     requires second { nat_abs second ≤ 17240076000000000000 }
     ensures value { result ≡ pos 2 *ℤ (first -ℤ second) }
