@@ -17,7 +17,7 @@ use Rattle.multiplier_check.specs.declared.certificate.Certificate.{Certificate}
 use Rattle.multiplier_check.specs.Placement.{common_denominator, numerators_over, placement_of}
 use Rattle.multiplier_check.specs.Certificate.{fraction_at, gradient, arriving, leaving, IsBalanced, IsSigned, IsComplementary, DividesBothEnds, IsNear, IsCertificate}
 use Rattle.multiplier_check.specs.Check.{touching}
-use Rattle.multiplier_check.proofs.Over.{IsOver, IsOver-numerator_over, HasDen, AreOver, over_common, over_at, at_from_all, over_total, length-numerators_over, over_times, over_less, over_minus, same_from_over, same_value, cancel, dens, den_at}
+use Rattle.multiplier_check.proofs.Over.{IsOver, IsOver-numerator_over, HasDen, AreOver, over_common, over_at, at_from_all, over_sum, length-numerators_over, over_multiple, over_less, over_minus, same_from_over, same_value, cancel, dens, den_at}
 use Rattle.multiplier_check.proofs.Slacks.{room, sign_ge, sign_zero, keeps_from_room}
 use Rattle.multiplier_check.proofs.Zips.{zip_from_index}
 use Rattle.units.specs.Separation.{no_separation, separation_at}
@@ -109,10 +109,10 @@ balanced p active point Q c rest v i b =
     let over : AreOver Q c.multipliers = are-over Q c.multipliers point.m low (λ k h. v.multipliers k (subst (λ n. k < n) v.multipliers_as_long h)) in
     let w = get_or p.weights i 0 in
     let d = get_or p.desired i (pos 0) in
-    let u : IsOver Q (gradient p c.places i) (pos (2 * w) *ℤ (point.x i -ℤ d *ℤ pos Q)) = over_times Q (2 * w) (minus_whole (fraction_at c.places i) d) _ (over_less Q (fraction_at c.places i) d (point.x i) (v.places i b)) in
+    let u : IsOver Q (gradient p c.places i) (pos (2 * w) *ℤ (point.x i -ℤ d *ℤ pos Q)) = over_multiple Q (2 * w) (minus_whole (fraction_at c.places i) d) _ (over_less Q (fraction_at c.places i) d (point.x i) (v.places i b)) in
     let e = over_minus Q (arriving p.separations c.multipliers i) (leaving p.separations c.multipliers i) _ _
-    (over_total Q (λ s. s.right) p.separations c.multipliers i (at_from_all Q (λ s. s.right) i p.separations c.multipliers over))
-    (over_total Q (λ s. s.left) p.separations c.multipliers i (at_from_all Q (λ s. s.left) i p.separations c.multipliers over)) in
+    (over_sum Q (λ s. s.right) p.separations c.multipliers i (at_from_all Q (λ s. s.right) i p.separations c.multipliers over))
+    (over_sum Q (λ s. s.left) p.separations c.multipliers i (at_from_all Q (λ s. s.left) i p.separations c.multipliers over)) in
     let sums = net-is p.separations (numerators_over Q c.multipliers) point.m i (length-numerators_over Q c.multipliers ∙ v.multipliers_as_long)
     (λ k h. numerator-is Q c.multipliers k (point.m k) (dens c.multipliers low) over (v.multipliers k h)) in
     same_from_over Q (gradient p c.places i) (minus (arriving p.separations c.multipliers i) (leaving p.separations c.multipliers i))
