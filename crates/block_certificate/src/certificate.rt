@@ -10,9 +10,7 @@ ghost use Rattle.block_sums.specs.Solving.{IsActive, IsBounded, rest_at};
 ghost use Rattle.block_sums.specs.Rest.{IsSolved};
 ghost use Rattle.block_certificate.specs.Values.{place_of_leg, multiplier_of_leg, AreWritten, ArePlaced, AreSettled, AreReduced};
 
-use block_sums::chains::{Chains, chain};
-use block_sums::stops::rest_at;
-use block_sums::sweep::{Block, sweep};
+use block_sums::{BlockSums, Chains, chain, rest_at, sweep};
 use frac128::Frac;
 use multiplier_check::Certificate;
 use std::alloc::{AllocError, Global};
@@ -39,7 +37,7 @@ fn moved(moment: i64, weighed: i64) -> i64
 }
 
 /// The place of the variable of a leg, over the weight of its block.
-fn place_of_leg(block: &Block, at: usize) -> Frac
+fn place_of_leg(block: &BlockSums, at: usize) -> Frac
     requires at { at < length block.now.legs.items }
     requires near { nat_abs (leg_at block.now.legs.items at).offset ≤ 257000000 }
     requires bounded { IsBounded block.now.legs.items block.now.weights.items block.now.moments.items }
@@ -54,7 +52,7 @@ fn place_of_leg(block: &Block, at: usize) -> Frac
 }
 
 /// The multiplier of the separation of a leg, over the weight of its block.
-fn multiplier_of_leg(block: &Block, at: usize) -> Frac
+fn multiplier_of_leg(block: &BlockSums, at: usize) -> Frac
     requires at { at < length block.now.legs.items }
     requires bounded { IsBounded block.now.legs.items block.now.weights.items block.now.moments.items }
     requires heavy { pos 0 <ℤ load_at block.now.weights.items 0 }
@@ -64,7 +62,7 @@ fn multiplier_of_leg(block: &Block, at: usize) -> Frac
 }
 
 /// Writes the multipliers of the separations of a block.
-fn write_multipliers(block: &Block, multipliers: &mut [Frac])
+fn write_multipliers(block: &BlockSums, multipliers: &mut [Frac])
     requires among { (j : ℕ) → 0 < j → j < length block.now.legs.items → (leg_at block.now.legs.items j).sep < length multipliers.old }
     requires bounded { IsBounded block.now.legs.items block.now.weights.items block.now.moments.items }
     requires heavy { pos 0 <ℤ load_at block.now.weights.items 0 }
@@ -76,7 +74,7 @@ fn write_multipliers(block: &Block, multipliers: &mut [Frac])
 }
 
 /// Writes the places of the variables of a block.
-fn write_places(block: &Block, places: &mut [Frac], placed: &mut [bool])
+fn write_places(block: &BlockSums, places: &mut [Frac], placed: &mut [bool])
     requires among { All (λ leg. leg.variable < length places.old) block.now.legs.items }
     requires as_many { length placed.old ≡ length places.old }
     requires near { All (λ leg. nat_abs leg.offset ≤ 257000000) block.now.legs.items }

@@ -1,4 +1,6 @@
 //! The certificate of a list of active separations whose state at rest solves a problem.
 #![tactic(auto)]
 
-pub mod certificate;
+mod certificate;
+
+pub use certificate::certificate_of;

@@ -6,7 +6,7 @@ use Rattle.std.proofs.lemmas.List.Elements.{All-filter}
 use Rattle.units.specs.Problem.{Problem}
 use Rattle.frac128.specs.Fraction.{Fraction, ◌≈◌, IsLowest, pos-nat_abs}
 use Rattle.frac128.proofs.Ring.{dif_of, dif_pos, difs, dif_same}
-use Rattle.block_sums.specs.Ends.{separation_at}
+use Rattle.units.specs.Separation.{separation_at}
 use Rattle.block_sums.specs.Loads.{sum_of}
 use Rattle.block_sums.specs.Blocks.{HasSums, IsPull, without, weight_at, desired_at}
 

@@ -8,7 +8,8 @@ use Rattle.std.proofs.lemmas.List.Quantifiers.{all_pairs_push}
 use Rattle.units.specs.declared.geometry.Sep.{Sep}
 use Rattle.block_sums.specs.declared.legs.Leg.{Leg}
 use Rattle.block_sums.specs.declared.paths.Step.{Step}
-use Rattle.block_sums.specs.Ends.{separation_at, end_of, active_at}
+use Rattle.units.specs.Separation.{separation_at}
+use Rattle.block_sums.specs.Ends.{end_of, active_at}
 use Rattle.block_sums.specs.Legs.{leg_at, variable_at, stride, IsTree, IsReached, IsBlockTree}
 use Rattle.block_sums.specs.Blocks.{start_of, finish_of, Leads, distance, IsChain}
 

@@ -9,7 +9,8 @@ use Rattle.units.specs.Problem.{Problem}
 use Rattle.units.specs.declared.memory.Memory.{Memory}
 use Rattle.block_sums.specs.declared.legs.Leg.{Leg}
 use Rattle.block_sums.specs.declared.paths.Step.{Step}
-use Rattle.block_sums.specs.Ends.{separation_at, end_of, active_at}
+use Rattle.units.specs.Separation.{separation_at}
+use Rattle.block_sums.specs.Ends.{end_of, active_at}
 use Rattle.block_sums.specs.Legs.{no_leg, leg_at, variable_at, IsTree, IsReached, IsBlockTree}
 use Rattle.block_sums.specs.Blocks.{finish_of, Leads, IsChain, AreJoined, IsBlock, IsFound}
 use Rattle.block_sums.proofs.Chaining.{chain-push, seps-differ}

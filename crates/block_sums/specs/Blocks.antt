@@ -4,7 +4,8 @@ use Rattle.units.specs.declared.geometry.Sep.{Sep}
 use Rattle.units.specs.Problem.{Problem}
 use Rattle.frac128.specs.Fraction.{Fraction, IsLowest}
 use Rattle.block_sums.specs.declared.paths.Step.{Step}
-use Rattle.block_sums.specs.Ends.{separation_at, end_of}
+use Rattle.units.specs.Separation.{separation_at}
+use Rattle.block_sums.specs.Ends.{end_of}
 use Rattle.block_sums.specs.declared.legs.Leg.{Leg}
 use Rattle.block_sums.specs.Legs.{stride, IsReached}
 use Rattle.block_sums.specs.Loads.{sum_of}

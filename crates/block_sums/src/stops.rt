@@ -8,7 +8,7 @@ ghost use Rattle.block_sums.specs.Solving.{IsBounded, AreSmall, signed, rest_at,
 ghost use Rattle.block_sums.specs.Stops.{IsFalling, IsThreshold, IsSmall, IsNoLater, IsFirst, IsEarlier, IsClosingForce, IsLookedAt};
 
 use crate::legs::Leg;
-use crate::sweep::{Block, Pushed};
+use crate::sweeps::{BlockSums, Pushed};
 use units::Sep;
 
 /// The force at which the multiplier of a separation falls to 0, as a fraction: `rest` over `fall`.
@@ -81,7 +81,7 @@ fn signed_small(along: bool, number: i64) -> i64
 }
 
 /// The multiplier of the separation of a leg without force, times the weight of its block.
-pub fn rest_at(block: &Block, at: usize) -> i128
+pub fn rest_at(block: &BlockSums, at: usize) -> i128
     requires at { at < length block.now.legs.items }
     requires bounded { IsBounded block.now.legs.items block.now.weights.items block.now.moments.items }
     ensures value { result ≡ rest_at block.now.legs.items block.now.weights.items block.now.moments.items at }

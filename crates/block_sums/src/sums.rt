@@ -2,7 +2,8 @@
 ghost use Rattle.std.specs.Prelude.{◌≡◌, ◌↔◌, ◌<◌, ◌≤◌, ◌*◌, ◌^◌, IsTrue, ◌-ℤ◌, ◌*ℤ◌, ◌<ℤ◌, ℕ, pos, nat_abs, length, IfOk, Contains, true, false};
 ghost use Rattle.std.specs.List.{All};
 ghost use Rattle.block_sums.specs.Blocks.{IsOpen, IsWeight, HasSums, IsMean, IsPull, without};
-ghost use Rattle.block_sums.specs.Ends.{separation_at, end_of};
+ghost use Rattle.units.specs.Separation.{separation_at};
+ghost use Rattle.block_sums.specs.Ends.{end_of};
 ghost use Rattle.block_sums.specs.Legs.{IsBlockTree};
 ghost use Rattle.block_sums.specs.Loads.{sum_of, sizes};
 

@@ -4,4 +4,6 @@
 //! over one denominator. The laws are lemmas of `proofs/`, which the crates above cite.
 #![tactic(auto)]
 
-pub mod laws;
+mod laws;
+
+pub use laws::sum_law;

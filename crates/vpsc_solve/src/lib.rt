@@ -1,11 +1,14 @@
-//! The block solver: the exact weighted least-squares projection on separation constraints.
+//! The block solver: of all placements that satisfy the separations of a problem, the one of least weighted squared distance from the
+//! desired places, with a certificate that shows it.
 #![tactic(auto)]
 
-pub mod closing;
-pub mod mirror;
-pub mod next;
-pub mod places;
-pub mod solve;
-pub mod start;
-pub mod stops;
-pub mod violations;
+mod closing;
+mod mirror;
+mod next;
+mod places;
+mod solving;
+mod start;
+mod stops;
+mod violations;
+
+pub use solving::solve;

@@ -7,10 +7,9 @@ ghost use Rattle.block_sums.specs.Stops.{IsSmall, IsClosingForce};
 ghost use Rattle.vpsc_solve.specs.Stops.{IsStop, IsStopBetween, IsFeasible, IsUnderWay, stop_within};
 
 use crate::stops::Stop;
-use block_sums::chains::chain;
-use block_sums::legs::Leg;
-use block_sums::stops::{Threshold, closing_force, first_fall, is_below};
-use block_sums::sweep::{Block, sweep_pushed};
+use block_sums::{
+    BlockSums, Leg, Threshold, chain, closing_force, first_fall, is_below, sweep_pushed,
+};
 use std::alloc::{AllocError, Global};
 use units::{Problem, Sep};
 
@@ -67,7 +66,7 @@ pub fn next_stop(
 }
 
 /// The force that closes the gap between two blocks.
-fn force_between(closing: u16, sep: &Sep, left: &Block, right: &Block) -> Threshold
+fn force_between(closing: u16, sep: &Sep, left: &BlockSums, right: &BlockSums) -> Threshold
     requires gap { nat_abs sep.now.gap ≤ 1000000 }
     requires left_bounded { IsBounded left.now.legs.items left.now.weights.items left.now.moments.items }
     requires right_bounded { IsBounded right.now.legs.items right.now.weights.items right.now.moments.items }

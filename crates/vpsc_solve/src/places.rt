@@ -7,8 +7,7 @@ ghost use Rattle.block_sums.specs.Solving.{IsActive, IsBounded};
 ghost use Rattle.vpsc_solve.specs.declared.places.Place as place;
 ghost use Rattle.vpsc_solve.specs.Places.{place_at, is_settled, IsSmallPlace, IsLegPlace, IsPlaced, IsJoinedTo, AreSettled, ArePut};
 
-use block_sums::chains::{Chains, chain};
-use block_sums::sweep::{Block, sweep};
+use block_sums::{BlockSums, Chains, chain, sweep};
 use std::alloc::{AllocError, Global};
 use units::Problem;
 
@@ -32,7 +31,7 @@ fn turned_by(weight: i64, offset: i64) -> i64
 }
 
 /// The place of the variable of a leg.
-fn place_of(block: &Block, at: usize) -> Place
+fn place_of(block: &BlockSums, at: usize) -> Place
     requires at { at < length block.now.legs.items }
     requires bounded { IsBounded block.now.legs.items block.now.weights.items block.now.moments.items }
     requires near { nat_abs (leg_at block.now.legs.items at).offset ≤ 257000000 }
@@ -46,7 +45,7 @@ fn place_of(block: &Block, at: usize) -> Place
 }
 
 /// Puts the variables of a block at their places, and marks them.
-fn put_block(block: &Block, places: &mut [Place], settled: &mut [bool])
+fn put_block(block: &BlockSums, places: &mut [Place], settled: &mut [bool])
     requires bounded { IsBounded block.now.legs.items block.now.weights.items block.now.moments.items }
     requires near { All (λ leg. nat_abs leg.offset ≤ 257000000) block.now.legs.items }
     requires within { All (λ leg. leg.variable < length places.old) block.now.legs.items }

@@ -1,7 +1,7 @@
 use Rattle.std.proofs.Common.{◌≡◌, ◌<◌, rules, subst}
 use Rattle.block_sums.specs.Solving.{AreMarks}
 use Rattle.block_sums.proofs.Telling.{telling}
-use Rattle.block_sums.proofs.sweep.sweep_pushed.Goals as goal
+use Rattle.block_sums.proofs.sweeps.sweep_pushed.Goals as goal
 
 pub returns-clause-tells : goal.returns-clause-tells
 returns-clause-tells c =

@@ -16,7 +16,7 @@ use units::Problem;
 
 /// The block of a variable, and what each of its legs carries.
 #[derive(Drop)]
-pub struct Block {
+pub struct BlockSums {
     /// The tree of the block.
     pub legs: Vec<Leg>,
     /// For each leg the weight of its variable and of all that hang on it, 1 to 258,000.
@@ -29,7 +29,7 @@ pub struct Block {
 #[derive(Drop)]
 pub struct Pushed {
     /// The block.
-    pub block: Block,
+    pub block: BlockSums,
     /// For each leg 1 where the right end of the separation is its variable or hangs on it, less 1 where the left end does.
     pub marks: Vec<i64>,
 }
@@ -59,7 +59,7 @@ pub fn sweep(
     lefts: &Chains,
     rights: &Chains,
     root: u16,
-) -> Result<Block, AllocError>
+) -> Result<BlockSums, AllocError>
     requires active { IsActive problem.now active.now }
     requires root { root < length problem.now.desired }
     requires lefts { IsChained (end_at problem.now.separations active.now false) (length active.now) (length problem.now.desired) lefts.now.lasts.items lefts.now.befores.items }
@@ -81,7 +81,7 @@ pub fn sweep(
     )?;
     let weights = gathered(own_weights(alloc, problem, &legs)?, &legs);
     let moments = gathered(own_moments(alloc, problem, &legs)?, &legs);
-    Ok(Block {
+    Ok(BlockSums {
         legs,
         weights,
         moments,

@@ -11,7 +11,7 @@ use Rattle.vpsc_solve.specs.Stops.{IsViolation, HasClosed, DiffersAt}
 use Rattle.vpsc_solve.proofs.Standing.{all-small, broken-violates, unbroken-solved}
 use Rattle.vpsc_solve.proofs.Moving.{kept-or-joined}
 use Rattle.vpsc_solve.proofs.Potential.{common, common-large, cost_over, left_over, same-cost, less-left}
-use Rattle.vpsc_solve.proofs.solve.close_all.Goals as goal
+use Rattle.vpsc_solve.proofs.solving.close_all.Goals as goal
 
 pub first_violated-requires-clause-small : goal.first_violated-requires-clause-small
 first_violated-requires-clause-small c = all-small c.args.problem.now c.closings.active.items c.closings.places c.closings.invariant.placed

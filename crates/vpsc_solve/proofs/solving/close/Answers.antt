@@ -1,7 +1,7 @@
 use Rattle.std.proofs.Common.{◌≡◌, subst, false}
 use Rattle.vpsc_solve.specs.Stops.{IsViolation}
 use Rattle.vpsc_solve.proofs.Beginning.{violated-off, begins-below, if-ok}
-use Rattle.vpsc_solve.proofs.solve.close.Goals as goal
+use Rattle.vpsc_solve.proofs.solving.close.Goals as goal
 
 pub close_mirrored-requires-clause-off : goal.close_mirrored-requires-clause-off
 close_mirrored-requires-clause-off c = let w = c.requires.violated in violated-off c.args.problem.now c.args.active.now.items c.args.violation.sep c.args.violation.above w.0 w.1 c.requires.closing w.2

@@ -2,7 +2,7 @@ use Rattle.std.proofs.Common.{◌≡◌, ◌<◌, rules, length}
 use Rattle.std.specs.List.{All}
 use Rattle.block_sums.specs.Solving.{IsSweep}
 use Rattle.block_sums.proofs.Telling.{telling-rest}
-use Rattle.block_sums.proofs.sweep.sweep.Goals as goal
+use Rattle.block_sums.proofs.sweeps.sweep.Goals as goal
 
 pub returns-clause-tells : goal.returns-clause-tells
 returns-clause-tells c =

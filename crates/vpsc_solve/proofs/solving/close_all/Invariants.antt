@@ -3,7 +3,7 @@ use Rattle.block_sums.specs.Solving.{IsActive}
 use Rattle.block_sums.specs.Rest.{HasRest}
 use Rattle.vpsc_solve.specs.Places.{ArePlaced}
 use Rattle.vpsc_solve.proofs.Potential.{left_over}
-use Rattle.vpsc_solve.proofs.solve.close_all.Given as goal
+use Rattle.vpsc_solve.proofs.solving.close_all.Given as goal
 
 abbrev pub invariant-closings : goal.invariant-closings
 invariant-closings l = record {

@@ -12,7 +12,7 @@ use crate::mirror::turned_problem;
 use crate::places::{Place, settle};
 use crate::start::all_places;
 use crate::violations::{Violation, first_violated};
-use block_certificate::certificate::certificate_of;
+use block_certificate::certificate_of;
 use multiplier_check::Certificate;
 use std::alloc::{AllocError, Global};
 use units::{Memory, Problem};

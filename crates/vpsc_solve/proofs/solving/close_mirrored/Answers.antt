@@ -6,7 +6,7 @@ use Rattle.vpsc_solve.specs.Stops.{IsFeasible, IsUnderWay, IsViolation, HasClose
 use Rattle.vpsc_solve.specs.Mirror.{turned_problem}
 use Rattle.vpsc_solve.proofs.Mirrors.{active-turned, active-back, feasible-turned, begins-turned, closed-back, differs-back}
 use Rattle.vpsc_solve.proofs.Beginning.{if-ok}
-use Rattle.vpsc_solve.proofs.solve.close_mirrored.Goals as goal
+use Rattle.vpsc_solve.proofs.solving.close_mirrored.Goals as goal
 
 pub close_gap-requires-clause-active : goal.close_gap-requires-clause-active
 close_gap-requires-clause-active c = subst (λ q. IsActive q c.args.active.now.items) (sym c.in_ok-mirror.ensures) (active-turned c.args.problem.now c.args.closing c.args.active.now.items c.requires.closing c.requires.active)
