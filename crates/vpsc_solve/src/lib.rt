@@ -11,4 +11,7 @@ mod start;
 mod stops;
 mod violations;
 
-pub use solving::solve;
+pub use solving::{Solution, solve, solve_counted};
+
+#[cfg(test)]
+mod tests;

@@ -22,11 +22,7 @@ fn turned(sep: &Sep) -> Sep
 }
 
 /// The problem with the separation of this number turned round.
-pub fn turned_problem(
-    alloc: Global,
-    problem: &Problem,
-    number: u16,
-) -> Result<Problem, AllocError>
+pub fn turned_problem(alloc: Global, problem: &Problem, number: u16) -> Result<Problem, AllocError>
     requires { number < length problem.now.separations }
     ensures { IfOk result (λ mirror. mirror ≡ turned_problem problem.now number) }
 {

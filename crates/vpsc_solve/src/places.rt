@@ -109,7 +109,9 @@ fn settle_all(
 {
     for root in roots {
         if !settled[*root as usize] {
-            settle_block(alloc, problem, active, lefts, rights, *root, places, settled)?;
+            settle_block(
+                alloc, problem, active, lefts, rights, *root, places, settled,
+            )?;
         }
     }
     Ok(())
@@ -133,5 +135,14 @@ pub fn settle(
     let lefts = chain(alloc, count, problem.seps(), active, false)?;
     let rights = chain(alloc, count, problem.seps(), active, true)?;
     let mut settled = vec![in alloc; false; count]?;
-    settle_all(alloc, problem, active, &lefts, &rights, roots, places, &mut settled)
+    settle_all(
+        alloc,
+        problem,
+        active,
+        &lefts,
+        &rights,
+        roots,
+        places,
+        &mut settled,
+    )
 }

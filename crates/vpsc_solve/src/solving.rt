@@ -65,13 +65,15 @@ fn close(
     close_gap(alloc, problem, active, touched, violation.sep)
 }
 
-/// Closes one violated separation after another, the first first, until none is left.
-pub fn close_all(
+/// Closes one violated separation after another, the first first, until none is left, and counts them.
+///
+/// It goes on from any list of active separations that has a state at rest; a start from hints is a call with another list.
+fn close_all(
     alloc: Global,
     problem: &Problem,
     active: &mut Vec<u16>,
     places: &mut [Place],
-) -> Result<(), AllocError>
+) -> Result<u64, AllocError>
     requires active { IsActive problem.now active.old.items }
     requires rest { HasRest problem.now active.old.items }
     requires placed { ArePlaced problem.now active.old.items places.old }
@@ -81,45 +83,82 @@ pub fn close_all(
 {
     // Asked for what its type keeps, which the proof needs.
     let _seps = problem.seps();
+    let mut count: u64 = 0;
     let mut touched = Vec::new(alloc);
     'closings: loop {
         match first_violated(problem, places) {
-            None => return Ok(()),
+            None => return Ok(count),
             Some(violation) => {
                 touched.clear();
                 close(alloc, problem, active, &mut touched, violation)?;
                 settle(alloc, problem, active, &touched, places)?;
+                count = count.saturating_add(1);
             }
         }
     }
 }
 
-/// The active list at the end, begun with no active separation: each variable stands at its desired place.
-fn solved_list(alloc: Global, problem: &Problem) -> Result<Vec<u16>, AllocError>
+/// The active separations at the end.
+#[derive(Drop)]
+struct SolvedList {
+    /// Their numbers, in the order in which they were closed.
+    active: Vec<u16>,
+    /// How many closings led to them.
+    closings: u64,
+}
+
+/// The active separations at the end of a run that begins with none: each variable stands at its desired place.
+fn solved_list(alloc: Global, problem: &Problem) -> Result<SolvedList, AllocError>
     requires { IsFeasible problem.now }
-    ensures active { IfOk result (λ active. IsActive problem.now active.items) }
-    ensures solved { IfOk result (λ active. IsSolved problem.now active.items) }
+    ensures active { IfOk result (λ solved. IsActive problem.now solved.active.items) }
+    ensures solved { IfOk result (λ solved. IsSolved problem.now solved.active.items) }
 {
     let mut active = Vec::new(alloc);
     let mut places = all_places(alloc, problem, &active)?;
-    close_all(alloc, problem, &mut active, &mut places)?;
-    Ok(active)
+    let closings = close_all(alloc, problem, &mut active, &mut places)?;
+    Ok(SolvedList { active, closings })
+}
+
+/// A certificate, and the work that led to it.
+#[derive(Drop)]
+pub struct Solution {
+    /// The certificate.
+    pub certificate: Certificate,
+    /// How many separations were closed. No clause speaks of it.
+    pub closings: u64,
+}
+
+/// As `solve`, with the number of closings, which a benchmark prints.
+pub fn solve_counted(alloc: Global, problem: &Problem) -> Result<Solution, Memory>
+    requires { IsFeasible problem.now }
+    ensures shows { IfOk result (λ solution. IsCertificate problem.now solution.certificate) }
+    ensures projection { IfOk result (λ solution. IsProjection problem.now solution.certificate.places) }
+{
+    // Asked for what its type keeps, which the proof needs.
+    let _seps = problem.seps();
+    let end = solved_list(alloc, problem)?;
+    let certificate = certificate_of(alloc, problem, &end.active)?;
+    Ok(Solution {
+        certificate,
+        closings: end.closings,
+    })
 }
 
 /// The projection of a problem: of all placements that satisfy its separations the one of least weighted squared distance from the
 /// desired places, with a certificate that shows it. Some placement has to satisfy the separations; `cycle_test::test` tells.
-/// Answers `Memory` for want of memory alone. It always returns: the cost rises with each closing.
+/// Answers `Memory` for want of memory alone. It always returns: the cost at rest rises with each closing.
 ///
 /// The method is the dual active-set one of "Fast Node Overlap Removal" (Dwyer, Marriott and Stuckey 2005), in exact arithmetic. It
-/// starts at the desired places with no active separation and closes one violated separation after another by a force on its ends,
-/// dropping active ones that aren't exact where their multipliers fall to 0.
+/// starts at the desired places with no active separation and closes one violated separation after another, the first in the list
+/// first, by a force on its ends that grows, dropping active ones that aren't exact where their multipliers fall to 0.
 pub fn solve(alloc: Global, problem: &Problem) -> Result<Certificate, Memory>
     requires { IsFeasible problem.now }
     ensures shows { IfOk result (IsCertificate problem.now) }
     ensures projection { IfOk result (λ certificate. IsProjection problem.now certificate.places) }
 {
-    // Asked for what its type keeps, which the proof needs.
-    let _seps = problem.seps();
-    let active = solved_list(alloc, problem)?;
-    Ok(certificate_of(alloc, problem, &active)?)
+    let Solution {
+        certificate,
+        closings: _,
+    } = solve_counted(alloc, problem)?;
+    Ok(certificate)
 }

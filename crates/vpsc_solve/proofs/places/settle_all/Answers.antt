@@ -25,13 +25,13 @@ loop-root-preserved c =
     let old = c.loop-root.settled in
     let kept : Kept p c.args.active.now c.args.roots.now c.args.places.now c.if-not-settled-root.places c.if-not-settled-root.settled (k + 1) =
     elim c.if-not-settled-root.branch [
-      then-not-settled-root+in_ok-settle_block w ↦
+      | then-not-settled-root+in_ok-settle_block w ↦
           kept-at p c.args.active.now c.args.roots.now c.args.places.now w.settle_block.new.places c.if-not-settled-root.places w.settle_block.new.settled c.if-not-settled-root.settled (k + 1) w.places-is w.settled-is
           (record {
             all = w.in_ok-settle_block.ensures.so_far c.args.places.now i.settled;
             each = roots-next c.args.roots.now old w.settle_block.new.settled k w.in_ok-settle_block.ensures.still w.in_ok-settle_block.ensures.there i.roots;
           })
-    | else-not-settled-root w ↦
+      | else-not-settled-root w ↦
           kept-at p c.args.active.now c.args.roots.now c.args.places.now c.loop-root.places c.if-not-settled-root.places old c.if-not-settled-root.settled (k + 1) w.places-is w.settled-is
           (let there : is_settled old (get_or c.args.roots.now k 0) ≡ true = search rules in
           record { all = i.settled; each = roots-next c.args.roots.now old old k (λ j e. e) there i.roots })

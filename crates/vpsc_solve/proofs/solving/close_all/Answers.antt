@@ -22,8 +22,7 @@ returns-in-None-clause-solved c = unbroken-solved c.args.problem.now c.closings.
 pub close-requires-clause-violated : goal.close-requires-clause-violated
 close-requires-clause-violated c =
     let p = c.args.problem.now in
-    let i = c.closings.invariant in
-    (
+    let i = c.closings.invariant in (
       cost (givens_of p) i.rest.point,
       i.rest.Q,
       broken-violates p c.closings.active.items c.closings.places c.in-Some.violation (cost (givens_of p) i.rest.point) i.rest.Q c.seps-seps.ensures.bounded i.active i.placed c.in-Some.ensures.0 c.in-Some.ensures.1 i.rest refl,
