@@ -59,8 +59,17 @@ fn are_sound(count: u16, seps: &[Sep]) -> bool
     })
 }
 
+/// The certificate of a problem, where some placement satisfies its separations.
+fn certificate_of(alloc: Global, problem: &Problem) -> Result<Certificate, Fail> {
+    let count = problem.desired().len() as u16;
+    match test(alloc, count, problem.seps())? {
+        Verdict::Places(_) => return Ok(solve(alloc, problem)?),
+        Verdict::Cycle(_) => return Err("no placement".into()),
+    }
+}
+
 /// The certificate of the problem of these lists, where they are within its bounds and some placement satisfies the separations.
-fn certificate_of(
+fn shown(
     rt: &impl Abort,
     alloc: Global,
     weights: &[u32],
@@ -69,20 +78,15 @@ fn certificate_of(
 ) -> Result<Certificate, Fail> {
     assert!(rt; desired.len() <= 258 && seps.len() <= 2048);
     assert!(rt; weights.len() == desired.len());
-    let count = desired.len() as u16;
     assert!(rt; are_weights(weights));
     assert!(rt; are_near(desired));
-    assert!(rt; are_sound(count, seps));
+    assert!(rt; are_sound(desired.len() as u16, seps));
     let problem = Problem::new(
         weights.to_vec(alloc)?,
         desired.to_vec(alloc)?,
         seps.to_vec(alloc)?,
     );
-    match test(alloc, count, seps)? {
-        Verdict::Places(_) => {}
-        Verdict::Cycle(_) => return Err("no placement".into()),
-    }
-    let certificate = solve(alloc, &problem)?;
+    let certificate = certificate_of(alloc, &problem)?;
     assert!(rt; shows(&problem, &certificate));
     Ok(certificate)
 }
@@ -96,7 +100,7 @@ fn row(
     seps: &[Sep],
     places: &[(i128, i64)],
 ) -> Result<(), Fail> {
-    let certificate = certificate_of(rt, alloc, weights, desired, seps)?;
+    let certificate = shown(rt, alloc, weights, desired, seps)?;
     assert_eq!(rt; certificate.places.len(), places.len());
     for (place, want) in certificate.places.as_slice().iter().zip(places) {
         assert_eq!(rt; place.num(), want.0);
@@ -226,7 +230,7 @@ fn chain_row(
     gap: i128,
 ) -> Result<(), Fail> {
     let weights = vec![in alloc; 1; desired.len()]?;
-    let certificate = certificate_of(rt, alloc, &weights, desired, seps)?;
+    let certificate = shown(rt, alloc, &weights, desired, seps)?;
     let mut want = first;
     for place in certificate.places.as_slice() {
         assert_eq!(rt; place.num(), want);
