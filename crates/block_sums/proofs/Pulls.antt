@@ -1,8 +1,8 @@
 -- What the sums of a tree say of every state: its places, and its multipliers.
-use Rattle.std.proofs.Common.{◌≡◌, ◌≢◌, ℕ, zero, suc, ◌+◌, ◌*◌, ◌<◌, ◌≤◌, ℤ, pos, neg_ℤ, ◌+ℤ◌, ◌-ℤ◌, ◌*ℤ◌, arith, refl, sym, ap, ◌∙◌, Bool, true, false, not, eqb, eqb-true, subst, if◌then◌else◌, ◌⊎◌, inl, inr}
+use Rattle.std.proofs.Common.{◌≡◌, ◌≢◌, ℕ, zero, suc, ◌<◌, ◌≤◌, ℤ, pos, neg_ℤ, ◌+ℤ◌, ◌-ℤ◌, ◌*ℤ◌, arith, refl, sym, ap, ◌∙◌, Bool, true, false, eqb, eqb-true, subst, if◌then◌else◌, ◌⊎◌, inl, inr}
 use Rattle.std.proofs.lemmas.Bool.{eqb-false}
 use Rattle.std.proofs.lemmas.Int.{ints}
-use lib.IntN.{*ℤ-zero, *ℤ_comm}
+use lib.IntN.{*ℤ-zero}
 use Rattle.solver_law.specs.State.{put_at, sum_to, net, Givens, Point, IsState}
 use Rattle.solver_law.specs.Forest.{With}
 use Rattle.solver_law.proofs.Ring.{dif_of, dif_pos, difs, dif_same}

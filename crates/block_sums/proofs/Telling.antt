@@ -1,21 +1,20 @@
 -- The sums of a sweep say of every state where its variables stand, and what its separations exert.
-use Rattle.std.proofs.Common.{◌≡◌, ◌≢◌, ℕ, zero, suc, ◌+◌, ◌-◌, ◌*◌, ◌<◌, ◌≤◌, ℤ, pos, neg_ℤ, ◌+ℤ◌, ◌-ℤ◌, ◌*ℤ◌, nat_abs, List, [], ◌∷◌, length, get_or, map, drop, arith, refl, sym, ap, ◌∙◌, Bool, true, false, not, eqb, eqb-true, subst, if◌then◌else◌, ◌⊎◌, inl, inr}
-use Rattle.std.specs.List.{All, Contains}
+use Rattle.std.proofs.Common.{◌≡◌, ◌≢◌, ℕ, zero, suc, ◌-◌, ◌<◌, ℤ, pos, neg_ℤ, ◌+ℤ◌, ◌-ℤ◌, ◌*ℤ◌, List, [], ◌∷◌, length, map, arith, refl, sym, ap, ◌∙◌, Bool, true, false, eqb, eqb-true, subst, if◌then◌else◌}
+use Rattle.std.specs.List.{All}
 use Rattle.std.proofs.lemmas.Bool.{eqb-false}
 use Rattle.std.proofs.lemmas.Int.{ints}
 use lib.IntN.{*ℤ-zero, *ℤ_comm}
 use Rattle.units.specs.Problem.{Problem, IsSeparation}
-use Rattle.units.specs.Problem as stated
-use Rattle.solver_law.specs.State.{put_at, sum_to, Givens, Point, IsState}
+use Rattle.solver_law.specs.State.{put_at, sum_to, Point}
 use Rattle.solver_law.specs.Forest.{With}
 use Rattle.solver_law.proofs.Ring.{dif_of, dif_pos, difs, dif_same}
 use Rattle.solver_law.proofs.Sums.{put_at-same, put_at-other}
 use Rattle.block_sums.specs.declared.legs.Leg.{Leg}
-use Rattle.units.specs.Separation.{no_separation, separation_at}
+use Rattle.units.specs.Separation.{separation_at}
 use Rattle.block_sums.specs.Legs.{no_leg, leg_at, variable_at, IsReached, IsBlockTree}
-use Rattle.block_sums.specs.Loads.{load_at, hanging, sizes, sum_of, IsGathered, weight_of, moment_of, mark_of}
+use Rattle.block_sums.specs.Loads.{load_at, hanging, sum_of, IsGathered, weight_of, moment_of, mark_of}
 use Rattle.block_sums.specs.Solving.{givens_of, Active, IsActive, IsResting, IsSweep, AreMarks, TellsRest, TellsStates, HasPlace, HasMultiplier, rest_at, share_at}
-use Rattle.block_sums.proofs.Trees.{Tree, IsRooted, Gathers}
+use Rattle.block_sums.proofs.Trees.{IsRooted, Gathers}
 use Rattle.block_sums.proofs.Pulls.{IsSummed, weight, moment, mark, but, but-other, places, root-place, pull-is, signed, share_of, rest-level, closing-level, no-marks}
 use Rattle.block_sums.proofs.Rooted.{tree_of, rooted}
 use Rattle.block_sums.proofs.Gathering.{root-carries}

@@ -1,9 +1,8 @@
 -- What the legs of a tree carry: each its own load and those of the legs that hang on it.
-use Rattle.std.specs.Prelude.{◌≡◌, ℕ, ◌<◌, ◌≤◌, ◌+◌, ℤ, pos, ◌+ℤ◌, ◌-ℤ◌, ◌*ℤ◌, nat_abs, neg_ℤ, if◌then◌else◌, ◌==◌, List, [], ◌∷◌, length, slice_index, slice_index_or, drop}
+use Rattle.std.specs.Prelude.{◌≡◌, ℕ, ◌<◌, ◌+◌, ℤ, pos, ◌+ℤ◌, ◌-ℤ◌, ◌*ℤ◌, nat_abs, neg_ℤ, if◌then◌else◌, ◌==◌, List, [], ◌∷◌, length, slice_index, slice_index_or, drop}
 use Rattle.units.specs.Problem.{Problem}
 use Rattle.solver_law.specs.State.{put_at}
 use Rattle.block_sums.specs.declared.legs.Leg.{Leg}
-use Rattle.block_sums.specs.Legs.{leg_at, variable_at}
 
 -- the load of a leg
 abbrev pub load_at : List ℤ → ℕ → ℤ

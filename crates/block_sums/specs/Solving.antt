@@ -1,5 +1,5 @@
 -- The words of the solver over a problem and its active separations.
-use Rattle.std.specs.Prelude.{◌≡◌, ◌≢◌, ℕ, ◌+◌, ◌*◌, ◌<◌, ◌≤◌, ◌^◌, ℤ, pos, neg_ℤ, ◌+ℤ◌, ◌-ℤ◌, ◌*ℤ◌, nat_abs, Bool, if◌then◌else◌, List, length, map, slice_index, slice_index_or, All, AllPairs, Contains}
+use Rattle.std.specs.Prelude.{◌≡◌, ℕ, ◌<◌, ◌≤◌, ℤ, pos, neg_ℤ, ◌+ℤ◌, ◌-ℤ◌, ◌*ℤ◌, nat_abs, Bool, if◌then◌else◌, List, length, map, slice_index, slice_index_or, All, Contains}
 use Rattle.units.specs.Problem.{Problem}
 use Rattle.solver_law.specs.State.{Givens, Point, IsState}
 use Rattle.solver_law.specs.Forest.{With, IsForest}

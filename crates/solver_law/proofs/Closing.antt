@@ -1,10 +1,10 @@
 -- One closing, from rest to rest.
-use Rattle.std.proofs.Common.{◌≡◌, ℕ, zero, suc, ◌+◌, ◌*◌, ◌<◌, ◌≤◌, ℤ, pos, negsuc, ◌+ℤ◌, ◌-ℤ◌, ◌*ℤ◌, ◌≤ℤ◌, ◌<ℤ◌, neg_ℤ, nat_abs, arith, refl, sym, ◌∙◌, ap, ◌≢◌, Bool, true, false, if◌then◌else◌, ◌⊎◌, inl, inr, subst}
+use Rattle.std.proofs.Common.{◌≡◌, ℕ, ◌*◌, ◌<◌, ℤ, pos, ◌+ℤ◌, ◌-ℤ◌, ◌*ℤ◌, ◌≤ℤ◌, ◌<ℤ◌, arith, sym, ◌∙◌, ap, ◌≢◌, Bool, ◌⊎◌, inl, inr, subst}
 use Rattle.std.proofs.lemmas.Int.{ints}
 use lib.IntN.{*ℤ-zero, *ℤ_comm}
 use Rattle.solver_law.proofs.Ring.{dif_of, dif_pos, difs, dif_same}
-use Rattle.solver_law.proofs.Sums.{sum_to, sum-same, sum-scale}
-use Rattle.solver_law.proofs.Net.{net, net-scale}
+use Rattle.solver_law.proofs.Sums.{sum-same, sum-scale}
+use Rattle.solver_law.proofs.Net.{net-scale}
 use Rattle.solver_law.proofs.State.{Givens, Point, IsState, mix, mix-state}
 use Rattle.solver_law.proofs.Cut.{EndsBelow}
 use Rattle.solver_law.proofs.Progress.{cost, lack, IsOnOr}

@@ -1,13 +1,13 @@
 -- Within one block: the direction, and why some separation of the chain can fall.
-use Rattle.std.proofs.Common.{◌≡◌, ℕ, zero, suc, ◌+◌, ◌*◌, ◌<◌, ◌≤◌, ℤ, pos, negsuc, ◌+ℤ◌, ◌-ℤ◌, ◌*ℤ◌, ◌≤ℤ◌, ◌<ℤ◌, neg_ℤ, nat_abs, List, [], ◌∷◌, arith, refl, sym, ◌∙◌, ap, ◌≢◌, Bool, true, false, if◌then◌else◌, ◌⊎◌, inl, inr, eqb, eqb-true, subst, MatchBool, rules}
+use Rattle.std.proofs.Common.{◌≡◌, ℕ, ◌*◌, ◌<◌, ℤ, pos, negsuc, ◌+ℤ◌, ◌-ℤ◌, ◌*ℤ◌, ◌≤ℤ◌, ◌<ℤ◌, neg_ℤ, nat_abs, List, [], ◌∷◌, arith, refl, sym, ◌∙◌, ap, Bool, true, false, if◌then◌else◌, ◌⊎◌, inl, inr, eqb, eqb-true, subst, MatchBool, rules}
 use Rattle.std.specs.List.{AllByRecursion}
 use Rattle.std.proofs.lemmas.Int.{ints}
 use lib.IntN.{*ℤ-zero, *ℤ_comm}
 use Rattle.solver_law.specs.Step.{Step}
-use Rattle.solver_law.proofs.Ring.{dif_of, dif_pos, difs, dif_same}
-use Rattle.solver_law.proofs.Sums.{put_at, sum_to, spread, spread_less, put_at-same, put_at-other, put_at-zero, put_at-add, put_at-scale, put_here}
+use Rattle.solver_law.proofs.Ring.{dif_of, difs, dif_same}
+use Rattle.solver_law.proofs.Sums.{put_at, spread, spread_less}
 use Rattle.solver_law.proofs.Net.{net, net-add, net-scale, net-put}
-use Rattle.solver_law.proofs.Flow.{Leads, start, finish, flow, flow-net, flow-within, net-zero}
+use Rattle.solver_law.proofs.Flow.{Leads, finish, flow, flow-net, flow-within}
 use Rattle.solver_law.proofs.State.{Givens, Point, IsState}
 use Rattle.solver_law.proofs.Response.{IsJoined}
 pub use Rattle.solver_law.specs.Closing.{Holds}

@@ -1,13 +1,13 @@
 -- An exact separation whose ends stand too far apart is closed as its mirror image: from right to left, with the gap and the multiplier negated.
-use Rattle.std.proofs.Common.{◌≡◌, ℕ, zero, suc, ◌+◌, ◌*◌, ◌<◌, ◌≤◌, ℤ, pos, negsuc, ◌+ℤ◌, ◌-ℤ◌, ◌*ℤ◌, ◌≤ℤ◌, neg_ℤ, arith, refl, sym, ◌∙◌, ap, ◌≢◌, Bool, true, false, if◌then◌else◌, ◌⊎◌, inl, inr, eqb, eqb-true, subst, List, [], ◌∷◌}
+use Rattle.std.proofs.Common.{◌≡◌, ℕ, ◌<◌, ℤ, pos, ◌-ℤ◌, ◌*ℤ◌, ◌≤ℤ◌, neg_ℤ, arith, refl, sym, ◌∙◌, ap, Bool, true, false, if◌then◌else◌, ◌⊎◌, inl, inr, eqb, eqb-true, subst, List, [], ◌∷◌}
 use Rattle.std.proofs.lemmas.Int.{ints}
 use Rattle.std.specs.List.{AllByRecursion}
 use borrow.Author.Tests.{eq-eqb}
 use Rattle.solver_law.specs.Step.{Step}
-use Rattle.solver_law.specs.Forest.{Joins, Leads, start, finish, Without, IsForest}
-use Rattle.solver_law.specs.Closing.{SignsAreRight, AtRest}
+use Rattle.solver_law.specs.Forest.{Joins, Leads, finish, Without, IsForest}
+use Rattle.solver_law.specs.Closing.{AtRest}
 use Rattle.solver_law.specs.Cost.{cost, lack}
-use Rattle.solver_law.proofs.Ring.{dif_of, dif_pos, difs, dif_same}
+use Rattle.solver_law.proofs.Ring.{dif_of, difs, dif_same}
 use Rattle.solver_law.proofs.Sums.{put_at, sum_to, sum-same}
 use Rattle.solver_law.proofs.Net.{net}
 use Rattle.solver_law.proofs.State.{Givens, Point, IsState}

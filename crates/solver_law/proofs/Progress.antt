@@ -1,12 +1,10 @@
 -- From one stop to the next the potential rises.
-use Rattle.std.proofs.Common.{◌≡◌, ℕ, zero, suc, ◌+◌, ◌*◌, ◌<◌, ◌≤◌, ℤ, pos, negsuc, ◌+ℤ◌, ◌-ℤ◌, ◌*ℤ◌, ◌≤ℤ◌, arith, refl, sym, ◌∙◌, ap, ◌≢◌, Bool, true, false, ◌⊎◌, inl, inr}
+use Rattle.std.proofs.Common.{◌≡◌, ℕ, ◌<◌, ℤ, pos, ◌+ℤ◌, ◌-ℤ◌, ◌*ℤ◌, arith, ◌∙◌, ap, ◌≢◌}
 use Rattle.std.proofs.lemmas.Int.{ints}
-use lib.IntN.{*ℤ-zero, *ℤ_comm}
-use Rattle.solver_law.proofs.Ring.{dif_of, dif_pos, difs, dif_same, times_assoc}
-use Rattle.solver_law.proofs.Sums.{sum_to, sum-add, sum-same, sum-one, sum-two, sum-zero}
-use Rattle.solver_law.proofs.Net.{net, exchange}
+use Rattle.solver_law.proofs.Ring.{dif_of, dif_pos, difs, dif_same}
+use Rattle.solver_law.proofs.Sums.{sum_to, sum-add, sum-same}
 use Rattle.solver_law.proofs.State.{Givens, Point, IsState}
-use Rattle.solver_law.proofs.Cut.{EndsBelow, IsLevelAt, exerted, cut}
+use Rattle.solver_law.proofs.Cut.{EndsBelow, exerted, cut}
 pub use Rattle.solver_law.specs.Cost.{cost, lack}
 
 -- how far the places have moved

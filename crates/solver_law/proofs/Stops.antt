@@ -1,13 +1,11 @@
 -- The stops of a closing: a separation is dropped, or the gap is closed.
-use Rattle.std.proofs.Common.{◌≡◌, ℕ, zero, suc, ◌+◌, ◌*◌, ◌<◌, ◌≤◌, ℤ, pos, negsuc, ◌+ℤ◌, ◌-ℤ◌, ◌*ℤ◌, ◌≤ℤ◌, ◌<ℤ◌, neg_ℤ, nat_abs, arith, refl, sym, ◌∙◌, ap, ◌≢◌, Bool, true, false, if◌then◌else◌, ◌⊎◌, inl, inr, eqb, eqb-true, subst}
+use Rattle.std.proofs.Common.{◌≡◌, ℕ, zero, suc, ◌<◌, ℤ, pos, negsuc, ◌+ℤ◌, ◌-ℤ◌, ◌*ℤ◌, ◌≤ℤ◌, ◌<ℤ◌, nat_abs, arith, refl, sym, ◌∙◌, ap, ◌≢◌, Bool, true, false, ◌⊎◌, inl, inr, eqb, eqb-true, subst}
 use Rattle.std.proofs.lemmas.Int.{ints}
 use Rattle.std.proofs.lemmas.Bool.{eqb-false}
-use lib.IntN.{*ℤ-zero, *ℤ_comm}
-use Rattle.solver_law.proofs.Ring.{dif_of, dif_pos, difs, dif_same}
-use Rattle.solver_law.proofs.Sums.{put_at, sum_to, spread, spread_less, sum-same, sum-scale, sum-less, sum-zero}
-use Rattle.solver_law.proofs.Net.{net}
-use Rattle.solver_law.proofs.State.{Givens, Point, IsState, mix, mix-state}
-use Rattle.solver_law.proofs.Cut.{EndsBelow, exerted}
+use lib.IntN.{*ℤ-zero}
+use Rattle.solver_law.proofs.Sums.{sum_to}
+use Rattle.solver_law.proofs.State.{Givens, Point, IsState}
+use Rattle.solver_law.proofs.Cut.{EndsBelow}
 use Rattle.solver_law.proofs.Progress.{cost, way, lack, IsOnOr, progress}
 use Rattle.solver_law.proofs.Forest.{With, Without}
 pub use Rattle.solver_law.specs.Cost.{worth}

@@ -1,8 +1,8 @@
-use Rattle.std.proofs.Common.{◌≡◌, ◌≤◌, ◌<◌, ◌+◌, ℕ, suc, length, get_or, arith, refl, sym, ap, ◌∙◌, rules, pos, Bool, true, false, length-set, replicate, set, subst, ◌++◌, ◌∷◌, []}
+use Rattle.std.proofs.Common.{◌≡◌, ◌<◌, ◌+◌, ℕ, length, get_or, arith, sym, ap, ◌∙◌, rules, Bool, true, false, length-set, replicate, set, subst, ◌++◌, ◌∷◌, []}
 use Rattle.units.specs.declared.geometry.Sep.{Sep}
 use Rattle.units.specs.Separation.{no_separation}
 use Rattle.block_sums.specs.Ends.{active_at, end_of, end_at}
-use Rattle.block_sums.proofs.Places.{one_more, begun, ended}
+use Rattle.block_sums.proofs.Places.{one_more, begun}
 use Rattle.std.proofs.lemmas.List.{get_or_default}
 use Rattle.block_sums.proofs.chains.chain.Goals as goal
 

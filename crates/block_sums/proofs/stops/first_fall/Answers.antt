@@ -1,4 +1,3 @@
-use Rattle.std.proofs.Common.{◌≡◌, rules}
 use Rattle.block_sums.proofs.Soonest.{first-none, first-step}
 use Rattle.block_sums.proofs.stops.first_fall.Goals as goal
 

@@ -1,4 +1,3 @@
-use Rattle.std.proofs.Common.{◌≡◌, ◌<◌, ◌≤◌, ℕ, length}
 use Rattle.block_sums.specs.Stops.{IsFirst}
 use Rattle.block_sums.proofs.stops.first_fall.Given as goal
 

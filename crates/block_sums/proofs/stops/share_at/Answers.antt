@@ -1,5 +1,5 @@
-use Rattle.std.proofs.Common.{◌≡◌, ◌<◌, rules, arith, FitsSigned, to_z, of_z, ℤ, ℕ, ap, length, get_or, pos, ◌*ℤ◌, ◌-ℤ◌, ◌∙◌}
-use Rattle.std.specs.Int.{w64, w128}
+use Rattle.std.proofs.Common.{◌<◌, rules, arith, FitsSigned, ap, length, ◌∙◌}
+use Rattle.std.specs.Int.{w64}
 use Rattle.std.proofs.lemmas.Int.{to_z-of_z}
 use Rattle.std.proofs.lemmas.List.{get_or_default}
 use Rattle.block_sums.specs.Legs.{no_leg}

@@ -1,4 +1,4 @@
-use Rattle.std.proofs.Common.{◌≡◌, ◌<◌, rules, length}
+use Rattle.std.proofs.Common.{◌<◌, rules, length}
 use Rattle.std.specs.List.{All}
 use Rattle.block_sums.specs.Solving.{IsSweep}
 use Rattle.block_sums.proofs.Telling.{telling-rest}

@@ -1,4 +1,4 @@
-use Rattle.std.proofs.Common.{◌≡◌, ◌<◌, rules, subst}
+use Rattle.std.proofs.Common.{subst}
 use Rattle.block_sums.specs.Solving.{AreMarks}
 use Rattle.block_sums.proofs.Telling.{telling}
 use Rattle.block_sums.proofs.sweeps.sweep_pushed.Goals as goal
