@@ -10,7 +10,7 @@ use Rattle.solver_law.specs.State.{sum_to, Point}
 use Rattle.solver_law.specs.Cost.{cost}
 use Rattle.solver_law.proofs.Ring.{dif_of, dif_pos, difs, dif_same}
 use Rattle.solver_law.proofs.Sums.{sum-same, sum-scale}
-use Rattle.solver_law.proofs.Mean.{factorial, factorial-above, Divides, divides-factorial}
+use Rattle.solver_law.proofs.Factorial.{factorial, factorial-above, Divides, divides-factorial}
 use Rattle.solver_law.proofs.Measure.{rises, falls, cost-below}
 use Rattle.block_sums.specs.Solving.{givens_of, Active, IsActive, IsResting}
 use Rattle.block_sums.specs.Rest.{IsRest, HasRest}
