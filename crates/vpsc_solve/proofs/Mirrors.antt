@@ -58,30 +58,6 @@ is-mirror p v below = record {
     gaps k true q = ap (λ s. s.gap) (at-turned p v k below true q)
     gaps k false q = ap (λ s. s.gap) (at-turned p v k below false q)
 
--- ---- the problem stays in its bounds, and what satisfies it does
-
-pub bounded-turned : (p : Problem) (v : ℕ) → v < length p.separations → stated.IsBounded p → stated.IsBounded (turned_problem p v)
-bounded-turned p v below h = record {
-  as_long = h.as_long;
-  variables = h.variables;
-  weighted = h.weighted;
-  near = h.near;
-  count = subst (λ n. n ≤ 2048) (sym (length-set p.separations v (turned_separation (separation_at p.separations v)))) h.count;
-  sound = λ k d b. each k d b;
-}
-  where
-    turn : (s : Sep) → IsSeparation (length p.desired) s → IsSeparation (length p.desired) (turned_separation s)
-    turn s i = record { left = i.right; right = i.left; apart = λ e. i.apart (sym e); gap = (let g = i.gap in omega (arith, ints, g)) }
-
-    at : (k : ℕ) → k < length p.separations → (b : Bool) → eqb v k ≡ b → IsSeparation (length p.desired) (separation_at (turned_problem p v).separations k)
-    at k b true q = subst (IsSeparation (length p.desired)) (sym (at-turned p v k below true q)) (turn (separation_at p.separations k) (h.sound k no_separation b))
-    at k b false q = subst (IsSeparation (length p.desired)) (sym (at-turned p v k below false q)) (h.sound k no_separation b)
-
-    each : (k : ℕ) (d : Sep) → k < length (turned_problem p v).separations → IsSeparation (length p.desired) (get_or (turned_problem p v).separations k d)
-    each k d b =
-        let e = length-set p.separations v (turned_separation (separation_at p.separations v)) in
-        subst (IsSeparation (length p.desired)) (get_or_default (turned_problem p v).separations k no_separation d b) (at k (subst (λ n. k < n) e b) (eqb v k) refl)
-
 pub feasible-turned : (p : Problem) (v : ℕ) → v < length p.separations → exact_of p v ≡ true → IsFeasible p → IsFeasible (turned_problem p v)
 feasible-turned p v below strict h = record {
   places = h.places;

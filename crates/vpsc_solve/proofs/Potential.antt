@@ -48,12 +48,6 @@ cost_most F p = sum_to (length p.desired) (λ i. pos (slice_index p.weights i) *
 abbrev pub left_over : Problem → List Place → ℕ
 left_over p places = nat_abs (cost_most common p) - nat_abs (cost_over common p places)
 
--- ---- one place
-
-product-above : (d o F : ℕ) → d * o ≡ F → 0 < F → 0 < d
-product-above zero o F e h = absurd (omega (arith, e, h))
-product-above (suc d) o F e h = omega arith
-
 quotient : (d F : ℕ) → 0 < d → Divides d F → d * (F / d) ≡ F
 quotient d F above h = ap (λ t. d * t) (ap (λ f. f / d) (sym h.product) ∙ mul-div_cancel_left h.other above) ∙ h.product
 

@@ -52,8 +52,3 @@ own-root p active all i long each b = record {
   among = (i, subst (λ n. i < n) (sym long) b, get_or_default all i i 0 (subst (λ n. i < n) (sym long) b) ∙ each i b);
   joins = joins-self i;
 }
-
-pub roots-within : (n : ℕ) (all : List ℕ) → length all ≡ n → ((k : ℕ) → k < n → get_or all k 0 ≡ k) → All (λ i. i < n) all
-roots-within n all long each k d b =
-    let c = subst (λ m. k < m) long b in
-    subst (λ i. i < n) (sym (get_or_default all k d 0 b ∙ each k c)) c
