@@ -23,7 +23,7 @@ use Rattle.scene_model.specs.Variables.{variables, variable_number, same_variabl
 use Rattle.scene_model.proofs.Named.{is_some-position}
 use Rattle.scene_model.proofs.Places.{sort_stands, thing_found_is, found_as}
 
-any-front : {A : Type 0} (p : A → Bool) (xs ys : List A) → list_any p xs ≡ true → list_any p (xs ++ ys) ≡ true
+pub any-front : {A : Type 0} (p : A → Bool) (xs ys : List A) → list_any p xs ≡ true → list_any p (xs ++ ys) ≡ true
 any-front p [] ys is = cc
 any-front {A} p (x ∷ xs) ys is = by (p x) is (any-front p xs ys)
   where
@@ -31,7 +31,7 @@ any-front {A} p (x ∷ xs) ys is = by (p x) is (any-front p xs ys)
     by true is rest = refl
     by false is rest = rest is
 
-any-behind : {A : Type 0} (p : A → Bool) (xs ys : List A) → list_any p ys ≡ true → list_any p (xs ++ ys) ≡ true
+pub any-behind : {A : Type 0} (p : A → Bool) (xs ys : List A) → list_any p ys ≡ true → list_any p (xs ++ ys) ≡ true
 any-behind p [] ys is = is
 any-behind {A} p (x ∷ xs) ys is = by (p x) (any-behind p xs ys is)
   where
@@ -46,7 +46,7 @@ found scene axis name any = is_some-position (λ (v : Variable). same_variable n
 -- where an item of a name stands, so does its variable
 module _ {T : Type 0} (name_of : T → NameOf) (parts : T → List Variable) (name : VariableName) (n : NameOf)
     (has : (x : T) → same_name n (name_of x) ≡ true → list_any (λ (v : Variable). same_variable name v.name) (parts x) ≡ true) where
-  any-parts : (xs : List T) → list_any (same_name n) (map name_of xs) ≡ true → list_any (λ (v : Variable). same_variable name v.name) (flat_map parts xs) ≡ true
+  pub any-parts : (xs : List T) → list_any (same_name n) (map name_of xs) ≡ true → list_any (λ (v : Variable). same_variable name v.name) (flat_map parts xs) ≡ true
   any-parts [] is = cc
   any-parts (x ∷ xs) is = by (same_name n (name_of x)) refl is (any-parts xs)
     where
@@ -56,37 +56,37 @@ module _ {T : Type 0} (name_of : T → NameOf) (parts : T → List Variable) (na
       by true same is rest = any-front (λ (v : Variable). same_variable name v.name) (parts x) (flat_map parts xs) (has x same)
       by false differs is rest = any-behind (λ (v : Variable). same_variable name v.name) (parts x) (flat_map parts xs) (rest is)
 
-any-shapes : (axis : Axis) (n : NameOf) (ss : List Shape) → list_any (λ (v : Variable). same_variable (OfItem n) v.name) (map (shape_variable axis) ss) ≡ list_any (same_name n) (shape_names ss)
+pub any-shapes : (axis : Axis) (n : NameOf) (ss : List Shape) → list_any (λ (v : Variable). same_variable (OfItem n) v.name) (map (shape_variable axis) ss) ≡ list_any (same_name n) (shape_names ss)
 any-shapes axis n [] = refl
 any-shapes axis n (s ∷ ss) = ap (λ b. same_name n s.name || b) (any-shapes axis n ss)
 
 -- whether a variable has the name
-abbrev is_of : VariableName → Variable → Bool
+abbrev pub is_of : VariableName → Variable → Bool
 is_of name v = same_variable name v.name
 
 -- a variable among those of one sort is among those of the axis
 module _ (scene : Diagram) (axis : Axis) (name : VariableName) where
-  of_shapes : list_any (is_of name) (map (shape_variable axis) scene.shapes) ≡ true → IsSome (variable_number scene axis name)
+  pub of_shapes : list_any (is_of name) (map (shape_variable axis) scene.shapes) ≡ true → IsSome (variable_number scene axis name)
   of_shapes any =
       found scene axis name
       (any-front (is_of name) (map (shape_variable axis) scene.shapes ++ map guide_variable (guides_on axis scene.guides) ++ flat_map (group_variables axis) scene.groups) (flat_map (page_variables axis) scene.pages)
       (any-front (is_of name) (map (shape_variable axis) scene.shapes ++ map guide_variable (guides_on axis scene.guides)) (flat_map (group_variables axis) scene.groups)
       (any-front (is_of name) (map (shape_variable axis) scene.shapes) (map guide_variable (guides_on axis scene.guides)) any)))
 
-  of_guides : list_any (is_of name) (map guide_variable (guides_on axis scene.guides)) ≡ true → IsSome (variable_number scene axis name)
+  pub of_guides : list_any (is_of name) (map guide_variable (guides_on axis scene.guides)) ≡ true → IsSome (variable_number scene axis name)
   of_guides any =
       found scene axis name
       (any-front (is_of name) (map (shape_variable axis) scene.shapes ++ map guide_variable (guides_on axis scene.guides) ++ flat_map (group_variables axis) scene.groups) (flat_map (page_variables axis) scene.pages)
       (any-front (is_of name) (map (shape_variable axis) scene.shapes ++ map guide_variable (guides_on axis scene.guides)) (flat_map (group_variables axis) scene.groups)
       (any-behind (is_of name) (map (shape_variable axis) scene.shapes) (map guide_variable (guides_on axis scene.guides)) any)))
 
-  of_groups : list_any (is_of name) (flat_map (group_variables axis) scene.groups) ≡ true → IsSome (variable_number scene axis name)
+  pub of_groups : list_any (is_of name) (flat_map (group_variables axis) scene.groups) ≡ true → IsSome (variable_number scene axis name)
   of_groups any =
       found scene axis name
       (any-front (is_of name) (map (shape_variable axis) scene.shapes ++ map guide_variable (guides_on axis scene.guides) ++ flat_map (group_variables axis) scene.groups) (flat_map (page_variables axis) scene.pages)
       (any-behind (is_of name) (map (shape_variable axis) scene.shapes ++ map guide_variable (guides_on axis scene.guides)) (flat_map (group_variables axis) scene.groups) any))
 
-  of_pages : list_any (is_of name) (flat_map (page_variables axis) scene.pages) ≡ true → IsSome (variable_number scene axis name)
+  pub of_pages : list_any (is_of name) (flat_map (page_variables axis) scene.pages) ≡ true → IsSome (variable_number scene axis name)
   of_pages any =
       found scene axis name
       (any-behind (is_of name) (map (shape_variable axis) scene.shapes ++ map guide_variable (guides_on axis scene.guides) ++ flat_map (group_variables axis) scene.groups) (flat_map (page_variables axis) scene.pages) any)

@@ -248,6 +248,7 @@ module _ (d : Diagram) (e : Edit) where
   held (refusal.Limit counted.Seps count) at =
       ap (λ b. cond b (Some (refusal.Limit counted.Seps most_separations)) None) (either_axis (is_crowded d e) at.axis (crowded_is d e count at)) ∙ ap (λ n. Some (refusal.Limit counted.Seps n)) (sym at.most)
   held (refusal.Limit counted.Entries count) at = absurd at
+  held (refusal.Infeasible axis walk) at = absurd at
   held (refusal.Ended place) at = absurd at
   held refusal.Memory at = absurd at
 

@@ -90,7 +90,8 @@ IsPassed d e counted.Pages count = IsFull d e sort.Page count
 IsPassed d e counted.Seps count = IsCrowded d e count
 IsPassed d e counted.Entries count = ⊥
 
--- what a refusal says of a diagram and an edit. A document that was ended and want of memory are no causes of a diagram
+-- what a refusal says of a diagram and an edit. An axis that can't be met, a document that was ended and want of memory
+-- are no causes of a diagram
 abbrev pub Holds : Diagram → Edit → Refusal → Type 0
 Holds d e (refusal.Range value) = IsOutOfRange e value
 Holds d e (refusal.Unknown name) = IsUnknown d e name
@@ -99,6 +100,7 @@ Holds d e (refusal.Kind name) = IsOtherKind d e name
 Holds d e (refusal.Twice name) = IsTwice e name
 Holds d e (refusal.InUse by) = IsInUse d e by
 Holds d e (refusal.Limit what count) = IsPassed d e what count
+Holds d e (refusal.Infeasible axis walk) = ⊥
 Holds d e (refusal.Ended place) = ⊥
 Holds d e refusal.Memory = ⊥
 
@@ -125,6 +127,7 @@ rank (refusal.Kind name) = 3
 rank (refusal.Twice name) = 4
 rank (refusal.InUse by) = 5
 rank (refusal.Limit what count) = limit_rank what
+rank (refusal.Infeasible axis walk) = 9
 rank (refusal.Ended place) = 9
 rank refusal.Memory = 9
 

@@ -6,3 +6,4 @@ pub mod Moves
 pub mod Naming
 pub mod Ranges
 pub mod Refusals
+pub mod Walks

@@ -14,6 +14,7 @@ mod refusals;
 mod repeats;
 mod sorts;
 mod standing;
+mod walks;
 
 pub use applying::apply;
 pub use checking::check;
@@ -22,6 +23,7 @@ pub use crowding::separations_law;
 pub use edits::Edit;
 pub use moves::has_moves_left;
 pub use refusals::{Counted, Refusal};
+pub use walks::Walk;
 
 #[cfg(test)]
 mod checking_tests;

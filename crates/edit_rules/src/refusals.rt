@@ -1,7 +1,8 @@
 //! Why an edit is refused.
 ghost use Rattle.std.specs.Prelude.{◌≡◌};
 
-use units::{Memory, Name};
+use crate::walks::Walk;
+use units::{Axis, Memory, Name};
 
 /// What a limit counts.
 #[derive(Clone, Copy, Debug, PartialEq, Eq)]
@@ -35,6 +36,8 @@ pub enum Refusal {
     InUse { by: Name },
     /// So many stand already, and no more may; or the edit lists more members than that.
     Limit { what: Counted, count: u32 },
+    /// No placement would fit the edited scene on the axis: its separations have this positive cycle.
+    Infeasible { axis: Axis, walk: Walk },
     /// The document was ended, by the entry at this place of the history.
     Ended { place: u32 },
     /// Want of memory.
