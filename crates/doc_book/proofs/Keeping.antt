@@ -22,13 +22,12 @@ use Rattle.doc_book.specs.declared.entries.Act.TheVariants as act
 use Rattle.doc_book.specs.Frames.{IsFrameOf}
 use Rattle.doc_book.specs.Growing.{entry_of}
 use Rattle.doc_book.specs.History.{edits_after, standing, scene_at, places_at, is_end, is_frame, end_place, after_end, frame_count}
-use Rattle.doc_book.specs.Kept.{IsKept, IsOpenCount, IsEndedCount}
+use Rattle.doc_book.specs.Kept.{IsKept, IsUncrowded, IsOpenCount, IsEndedCount}
 use Rattle.doc_book.specs.Legal.{HasRoom, most_finishing}
 use Rattle.doc_book.specs.Projection.{IsShown}
-use Rattle.script_text.specs.Commands.{is_built_edit}
-use Rattle.doc_book.specs.Verdicts.{verdict}
+use Rattle.doc_book.specs.Verdicts.{IsVerdict, is_link_edit}
 use Rattle.doc_book.proofs.Growing.{fold-push, scene_at-push, scene_of-push, places_at-push, IsLegal-push, IsSettled-push, IsSettled-push_frame, IsSettled-push_same, end_place-push_none, end_place-push_end, end_place-push_some, after_end-push_some, after_end-push_end}
-use Rattle.doc_book.proofs.Refusing.{not_ended, not_full}
+use Rattle.doc_book.proofs.Refusing.{accepted, not_ended, not_full}
 
 frame_count-push : (h : List Entry) (e : Entry) → frame_count (h ++ e ∷ []) ≡ frame_count h + cond (is_frame e) 1 0
 frame_count-push h e = fold-push (λ n (x : Entry). n + cond (is_frame x) 1 0) 0 h e
@@ -63,18 +62,19 @@ few_moves h budget scene places settled k open_history =
 
 -- an edit that the history accepts
 pub IsKept-edit : (h : List Entry) (budget : ℕ) (scene : Diagram) (places : Places) (settled : Bool) (who line : ℕ) (e : Edit) (scene' : Diagram) (places' : Places)
-    → IsKept h budget scene places settled → is_built_edit e ≡ true → verdict h e ≡ None → scene' ≡ edited e scene → places' ≡ carried scene scene' places
+    → IsKept h budget scene places settled → is_link_edit e ≡ false → IsVerdict h e None → scene' ≡ edited e scene → IsUncrowded scene' → places' ≡ carried scene scene' places
     → IsKept (h ++ entry_of who line (act.Edit e) ∷ []) budget scene' places' false
-IsKept-edit h budget scene places settled who line e scene' places' k built accepted scene_is places_are =
+IsKept-edit h budget scene places settled who line e scene' places' k links is scene_is uncrowded places_are =
+    let none = (accepted h e is).0 in
     let entry = entry_of who line (act.Edit e) in
-    let open_history = not_ended h e accepted in
+    let open_history = not_ended h e none in
     let next : scene' ≡ scene_of (standing h ++ e ∷ []) = scene_is ∙ (ap (edited e) k.scene_is ∙ sym (scene_of-push (standing h) e)) in
     let counts = subst (λ o. MatchOption o (IsOpenCount h budget) (λ _. IsEndedCount h budget)) open_history k.counts in
-    let full = not_full h e accepted in
+    let full = not_full h e none in
     let longer = length-push h entry in
     let frames = frame_count-push h entry in
     record {
-      legal = IsLegal-push h budget entry k.legal (built, accepted);
+      legal = IsLegal-push h budget entry k.legal (links, is);
       scene_is = next ∙ sym (scene_at-push h entry);
       places_are =
           places_are
@@ -83,6 +83,7 @@ IsKept-edit h budget scene places settled who line e scene' places' k built acce
           ∙ (ap (carried (scene_at h) (scene_of (standing h ++ e ∷ []))) k.places_are ∙ sym (places_at-push h entry))));
       on_x = ap (λ (p : Places). length p.x) places_are ∙ length-map (variables scene' X) (kept_place (variables scene X) places.x);
       on_y = ap (λ (p : Places). length p.y) places_are ∙ length-map (variables scene' Y) (kept_place (variables scene Y) places.y);
+      uncrowded = uncrowded;
       settled_is = (λ t. absurd (false≢true t), λ s. absurd (false≢true (IsSettled-push_frame h entry s)));
       budget_small = k.budget_small;
       counts = subst (λ o. MatchOption o (IsOpenCount (h ++ entry ∷ []) budget) (λ _. IsEndedCount (h ++ entry ∷ []) budget)) (sym (end_place-push_none h entry open_history refl))
@@ -127,6 +128,7 @@ IsKept-frame h budget scene places settled who line f places' settled' k room is
       places_are = places_are ∙ sym drawn_are;
       on_x = ap (λ (p : Places). length p.x) places_are ∙ on_axis X scene f.desired.x f.x k.scene_is is.on_x;
       on_y = ap (λ (p : Places). length p.y) places_are ∙ on_axis Y scene f.desired.y f.y k.scene_is is.on_y;
+      uncrowded = k.uncrowded;
       settled_is = (
         λ t. IsSettled-push h entry refl (drawn_are ∙ (settled_is.0 t ∙ k.places_are)),
         λ s. settled_is.1 (sym drawn_are ∙ (IsSettled-push_same h entry s ∙ sym k.places_are)),
@@ -154,6 +156,7 @@ IsKept-end h budget scene places settled k open_history =
       places_are = k.places_are ∙ sym (places_at-push h entry);
       on_x = k.on_x;
       on_y = k.on_y;
+      uncrowded = k.uncrowded;
       settled_is = (λ t. absurd (false≢true t), λ s. absurd (false≢true (IsSettled-push_frame h entry s)));
       budget_small = k.budget_small;
       counts = subst (λ o. MatchOption o (IsOpenCount (h ++ entry ∷ []) budget) (λ _. IsEndedCount (h ++ entry ∷ []) budget)) (sym (end_place-push_end h entry open_history refl))

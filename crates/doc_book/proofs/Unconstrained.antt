@@ -1,5 +1,5 @@
--- A document's scene has no constraints as long as none of the edits that are built makes one.
-use Rattle.std.proofs.Common.{◌≡◌, ◌<◌, ◌∙◌, ap, sym, subst, refl, length, take, ℕ, zero, suc, List, [], ◌∷◌, ◌++◌, true, Option, Some, None, append_assoc}
+-- Scenes without constraints: no edit of a command that is built makes one.
+use Rattle.std.proofs.Common.{◌≡◌, ◌<◌, ◌∙◌, ap, sym, subst, refl, length, take, ℕ, zero, suc, List, [], ◌++◌, true, Option, Some, None}
 use Rattle.std.proofs.lemmas.List.{append-nil}
 use Rattle.std.specs.Prelude.{remove}
 use Rattle.std.specs.List.{AllByRecursion, flat_map}
@@ -22,16 +22,10 @@ use Rattle.scene_model.specs.Separations.{separations, compound_separations, gro
 use Rattle.scene_model.specs.Variables.{variables}
 use Rattle.edit_rules.specs.declared.edits.Edit.{Edit}
 use Rattle.edit_rules.specs.declared.edits.Edit.TheVariants as edit
-use Rattle.edit_rules.specs.Effects.{edited, scene_of, with_found_shape, with_found_guide}
+use Rattle.edit_rules.specs.Effects.{edited, with_found_shape, with_found_guide}
 use Rattle.script_text.specs.Commands.{is_built_edit}
 use Rattle.multiplier_check.specs.Placement.{Placement}
-use Rattle.doc_book.specs.declared.entries.Entry.{Entry}
-use Rattle.doc_book.specs.declared.entries.Act.{Act}
-use Rattle.doc_book.specs.declared.entries.Act.TheVariants as act
-use Rattle.doc_book.specs.History.{edits_after, standing, scene_at}
-use Rattle.doc_book.specs.Legal.{AllMayFollow, ActMayFollow, IsLegal}
 use Rattle.doc_book.specs.Unconstrained.{IsUnconstrained}
-use Rattle.doc_book.proofs.Growing.{scene_at-push, scene_of-push}
 
 -- ---- an edit of a command that is built
 
@@ -73,7 +67,7 @@ taken : (d : Diagram) (found : Option Item) → IsUnconstrained d → IsUnconstr
 taken d None free = free
 taken d (Some item) free = taken_at d item.sort item.at free
 
-IsUnconstrained-edited : (d : Diagram) (e : Edit) → is_built_edit e ≡ true → IsUnconstrained d → IsUnconstrained (edited e d)
+pub IsUnconstrained-edited : (d : Diagram) (e : Edit) → is_built_edit e ≡ true → IsUnconstrained d → IsUnconstrained (edited e d)
 unfolding edited
 IsUnconstrained-edited d (edit.Put name form x y w h) built free = record { compounds = free.compounds; groups = free.groups; pages = free.pages }
 IsUnconstrained-edited d (edit.Guide name axis at) built free = record { compounds = free.compounds; groups = free.groups; pages = free.pages }
@@ -92,25 +86,6 @@ IsUnconstrained-edited d (edit.Apart name axis a b gap exact) built free = cc
 IsUnconstrained-edited d (edit.Group name pad members) built free = cc
 IsUnconstrained-edited d (edit.Page name x y w h margin rigid) built free = cc
 IsUnconstrained-edited d (edit.Drop name) built free = cc
-
--- ---- a legal history
-
-module _ (budget : ℕ) where
-  after_entry : (h : List Entry) (e : Entry) (a : Act) → ActMayFollow h budget e a → IsUnconstrained (scene_at h) → IsUnconstrained (scene_of (edits_after (standing h) a))
-  after_entry h e (act.Edit x) may free =
-      subst IsUnconstrained (sym (scene_of-push (standing h) x)) (IsUnconstrained-edited (scene_at h) x may.0 free)
-  after_entry h e (act.Frame f) may free = free
-  after_entry h e act.End may free = free
-
-  along : (before es : List Entry) → AllMayFollow before budget es → IsUnconstrained (scene_at before) → IsUnconstrained (scene_at (before ++ es))
-  along before [] all free = subst (λ (h : List Entry). IsUnconstrained (scene_at h)) (sym (append-nil before)) free
-  along before (e ∷ es) all free =
-      subst (λ (h : List Entry). IsUnconstrained (scene_at h)) (append_assoc before (e ∷ []) es)
-      (along (before ++ e ∷ []) es all.1 (subst IsUnconstrained (sym (scene_at-push before e)) (after_entry before e e.act all.0 free)))
-
-  -- a legal history has edits of commands that are built alone, and so its scene has no constraints
-  pub IsUnconstrained-legal : (h : List Entry) → IsLegal h budget → IsUnconstrained (scene_at h)
-  IsUnconstrained-legal h legal = along [] h legal (record { compounds = refl; groups = refl; pages = refl })
 
 -- ---- what that means
 

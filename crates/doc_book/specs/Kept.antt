@@ -1,13 +1,26 @@
 -- What a book keeps beside its history.
-use Rattle.std.specs.Prelude.{◌≡◌, ◌↔◌, ℕ, ◌+◌, ◌≤◌, List, length, Bool, IsTrue, MatchOption}
+use Rattle.std.specs.Prelude.{◌≡◌, ◌↔◌, ℕ, ◌+◌, ◌≤◌, List, length, Bool, IsTrue, None, MatchOption}
+use Rattle.units.specs.declared.geometry.Axis.{Axis}
 use Rattle.units.specs.declared.geometry.Axis.TheVariants.{X, Y}
 use Rattle.scene_model.specs.Diagram.{Diagram}
+use Rattle.scene_model.specs.Separations.{separations}
 use Rattle.scene_model.specs.Variables.{variables}
+use Rattle.edit_rules.specs.Refusals.{most_separations}
 use Rattle.frame_store.specs.declared.places.Places.{Places}
 use Rattle.doc_book.specs.declared.entries.Entry.{Entry}
 use Rattle.doc_book.specs.History.{scene_at, places_at, end_place, frame_count, after_end, IsSettled}
 use Rattle.doc_book.specs.Legal.{most_frames, most_finishing, IsLegal}
-use Rattle.doc_book.specs.Verdicts.{most_entries}
+use Rattle.doc_book.specs.Verdicts.{most_entries, IsFeasibility}
+
+-- no axis has more separations than it may
+abbrev pub IsUncrowded : Diagram → Type 0
+IsUncrowded scene = (axis : Axis) → length (separations scene axis) ≤ most_separations
+
+-- the scene is this one, no axis has more separations than it may, and both are feasible
+pub record IsFeasibleScene (whole scene : Diagram) : Type 0 where
+  pub is : scene ≡ whole
+  pub uncrowded : IsUncrowded scene
+  pub feasible : IsFeasibility scene None
 
 -- a history that was not ended has at most 20,000 entries and its frames, and no more frames than its budget
 pub record IsOpenCount (h : List Entry) (budget : ℕ) : Type 0 where
@@ -20,13 +33,15 @@ pub record IsEndedCount (h : List Entry) (budget : ℕ) : Type 0 where
   pub entries : length h ≤ most_entries + frame_count h + 1
   pub finishing : length (after_end h) ≤ most_finishing
 
--- the history is legal, the scene and places are those that it leads to, and its counts are bounded
+-- the history is legal, the scene and places are those that it leads to, and its counts are bounded. That the scene is
+-- feasible on both axes follows from the history
 pub record IsKept (h : List Entry) (budget : ℕ) (scene : Diagram) (places : Places) (settled : Bool) : Type 0 where
   pub legal : IsLegal h budget
   pub scene_is : scene ≡ scene_at h
   pub places_are : places ≡ places_at h
   pub on_x : length places.x ≡ length (variables scene X)
   pub on_y : length places.y ≡ length (variables scene Y)
+  pub uncrowded : IsUncrowded scene
   pub settled_is : IsTrue settled ↔ IsSettled h
   pub budget_small : budget ≤ most_frames
   pub counts : MatchOption (end_place h) (IsOpenCount h budget) (λ _. IsEndedCount h budget)

@@ -10,5 +10,6 @@ pub mod Listing
 pub mod Projection
 pub mod Replies
 pub mod Spots
+pub mod Standing
 pub mod Unconstrained
 pub mod Verdicts

@@ -1,6 +1,6 @@
 -- The text of a listing: the entries of a history with their frames, and the replies to the lines of a script
 -- (the format is this project's own).
-use Rattle.std.specs.Prelude.{ℕ, ◌+◌, ℤ, pos, List, [], ◌∷◌, ◌++◌, codes, filter, ◌==◌, if◌then◌else◌, decimal}
+use Rattle.std.specs.Prelude.{ℕ, ◌+◌, ℤ, pos, List, [], ◌∷◌, ◌++◌, codes, filter, map, ◌==◌, if◌then◌else◌, decimal}
 use Rattle.std.specs.List.{flat_map}
 use Rattle.std.specs.Fmt.{signed_decimal}
 use Rattle.std.specs.Ordering.{int_eq}
@@ -11,6 +11,7 @@ use Rattle.scene_model.specs.declared.variables.VariableName.{VariableName}
 use Rattle.scene_model.specs.declared.variables.VariableName.TheVariants.{OfItem, LowEdge, HighEdge}
 use Rattle.scene_model.specs.Diagram.{Diagram}
 use Rattle.scene_model.specs.Variables.{variables}
+use Rattle.cycle_test.specs.declared.arc.CycleArc.{CycleArc}
 use Rattle.edit_rules.specs.declared.refusals.Counted.{Counted}
 use Rattle.edit_rules.specs.declared.refusals.Counted.TheVariants as counted
 use Rattle.edit_rules.specs.declared.refusals.Refusal.{Refusal}
@@ -104,6 +105,10 @@ counted_word counted.Members = codes "members"
 counted_word counted.Seps = codes "seps"
 counted_word counted.Entries = codes "entries"
 
+-- an arc of a cycle: the number of its separation, behind `#`, and `+`, or `-` where it is taken back
+abbrev pub arc_word : CycleArc → Word
+arc_word arc = 35 ∷ (decimal arc.sep ++ (if arc.back then 45 else 43) ∷ [])
+
 -- a refusal for want of memory ends the run and has no text
 abbrev pub refusal_words : Refusal → List Word
 refusal_words (refusal.Range value) = codes "range" ∷ signed_decimal value ∷ []
@@ -113,6 +118,7 @@ refusal_words (refusal.Kind name) = codes "kind" ∷ name ∷ []
 refusal_words (refusal.Twice name) = codes "twice" ∷ name ∷ []
 refusal_words (refusal.InUse by) = codes "inuse" ∷ by ∷ []
 refusal_words (refusal.Limit what count) = codes "limit" ∷ counted_word what ∷ decimal count ∷ []
+refusal_words (refusal.Infeasible axis walk) = codes "infeasible" ∷ axis_word axis ∷ map arc_word walk
 refusal_words (refusal.Ended place) = codes "ended" ∷ decimal place ∷ []
 refusal_words refusal.Memory = []
 

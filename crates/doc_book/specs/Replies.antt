@@ -13,7 +13,7 @@ use Rattle.doc_book.specs.declared.replies.Reply.TheVariants as reply
 use Rattle.doc_book.specs.declared.asking.Spot.{Spot}
 use Rattle.doc_book.specs.History.{end_place, frame_count, scene_at, places_at, IsSettled}
 use Rattle.doc_book.specs.Spots.{IsSpot, ask_refusal}
-use Rattle.doc_book.specs.Verdicts.{verdict}
+use Rattle.doc_book.specs.Verdicts.{IsVerdict}
 
 -- what a look finds
 pub data Look : Type 0 where
@@ -45,13 +45,13 @@ IsFrameAct act.End = ⊥
 
 -- an accepted edit stands at its place, and the entries before it accept it
 abbrev pub IsAccepted : List Entry → ℕ → ℕ → ℕ → Command → Type 0
-IsAccepted h who line place (command.Edit e) = IsEntryAt h place who line (λ a. a ≡ act.Edit e) × (verdict (take place h) e ≡ None)
+IsAccepted h who line place (command.Edit e) = IsEntryAt h place who line (λ a. a ≡ act.Edit e) × IsVerdict (take place h) e None
 IsAccepted h who line place command.Layout = ⊥
 IsAccepted h who line place (command.Where name) = ⊥
 
 -- a refusal is the verdict on the edit, Ended of a layout, or that of the scene which was asked, at its front
 abbrev pub IsRefused : List Entry → ℕ → ℕ → Refusal → Command → Type 0
-IsRefused h budget front r (command.Edit e) = verdict (take front h) e ≡ Some r
+IsRefused h budget front r (command.Edit e) = IsVerdict (take front h) e (Some r)
 IsRefused h budget front r command.Layout = (place : ℕ) × (r ≡ refusal.Ended place) × IsLook (take front h) budget (Ending place)
 IsRefused h budget front r (command.Where name) = ask_refusal (scene_at (take front h)) name ≡ Some r
 

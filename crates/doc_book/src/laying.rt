@@ -8,6 +8,7 @@ ghost use Rattle.doc_book.specs.Frames.{IsFrameOf};
 ghost use Rattle.doc_book.specs.Growing.{Grows, entry_of};
 ghost use Rattle.doc_book.specs.History.{end_place, scene_at, places_at};
 ghost use Rattle.doc_book.specs.Legal.{HasRoom};
+ghost use Rattle.doc_book.specs.Unconstrained.{IsUnconstrained};
 
 use crate::book::Book;
 use crate::entries::{Act, Entry};
@@ -51,11 +52,12 @@ pub enum Finish {
 }
 
 impl Book {
-    /// Lays the document out once, for caller `who` and line `line`. In this order: Ending exactly after End; Spent
+    /// Lays the document out once, for caller `who` and line `line`; its scene has no compound, group or page. In this order: Ending exactly after End; Spent
     /// exactly where the budget of frames stands; Idle exactly where the last entry is a frame that changed no
     /// place; else a frame of the present scene and places is entered, or Memory. After all but Published the document is
     /// as before.
     pub fn layout(&mut self, alloc: Global, who: u8, line: u32) -> Laid
+        requires { IsUnconstrained (scene_at self.old.history) }
         ensures { IsLaid self.old self.new who line result }
     {
         let front = self.front();
@@ -102,11 +104,13 @@ impl Book {
         }
     }
 
-    /// One step of finishing the document, which was ended: `end` has answered with the place of End, or Ended.
+    /// One step of finishing the document, which was ended: `end` has answered with the place of End, or Ended. Its scene has
+    /// no compound, group or page.
     /// Settled exactly where the last entry is a frame that changed no place; Full exactly where not so and 64 frames
     /// stand after End; else a frame by caller 0 with line 0 is entered, or Memory.
     pub fn finish(&mut self, alloc: Global) -> Finish
-        requires { IsSome (end_place self.old.history) }
+        requires ended { IsSome (end_place self.old.history) }
+        requires free { IsUnconstrained (scene_at self.old.history) }
         ensures { IsFinishStep self.old self.new result }
     {
         let front = self.front();
@@ -138,7 +142,8 @@ impl Book {
 
     /// All growths come first, so that want of memory changes nothing.
     fn enter_frame(&mut self, alloc: Global, who: u8, line: u32) -> Result<(), Memory>
-        requires { HasRoom self.old.history self.old.budget }
+        requires room { HasRoom self.old.history self.old.budget }
+        requires free { IsUnconstrained (scene_at self.old.history) }
         ensures entered { OnOk result ((frame : FrameValue) × IsFrameOf (scene_at self.old.history) (places_at self.old.history) frame
             × (self.new ≡ record self.old { history = self.old.history ++ entry_of who line (act.Frame frame) ∷ [] })) }
         ensures unchanged { OnErr result (self.new ≡ self.old) }

@@ -1,23 +1,24 @@
 //! What no clause says: with ample memory edits, frames and End are entered. Expected values are by the order of the
 //! causes: an edit is ended, then full, then refused by the scene; a layout is ending, spent, idle, else published. A
 //! shape that an edit moved stands at its new corner.
-ghost use Rattle.std.specs.Prelude.{◌≡◌, true, IsTrue, IsSome};
-ghost use Rattle.script_text.specs.Commands.{is_built_edit};
-ghost use Rattle.doc_book.specs.History.{end_place as place_of_end};
+ghost use Rattle.std.specs.Prelude.{◌≡◌, false, IsTrue, IsSome};
+ghost use Rattle.doc_book.specs.History.{end_place as place_of_end, scene_at};
+ghost use Rattle.doc_book.specs.Unconstrained.{IsUnconstrained};
+ghost use Rattle.doc_book.specs.Verdicts.{is_link_edit};
 
 use crate::asking::spot_of;
 use crate::scanning::end_place;
 use crate::{Answer, Book, Finish, Laid, Refused, Spot};
 use edit_rules::{Counted, Edit, Refusal, apply, check, has_moves_left};
 use frame_store::{Places, carry};
-use scene_model::{Form, Scene};
+use scene_model::{Form, Scene, Sort};
 use std::alloc::Global;
 use std::test::Fail;
 use units::{Axis, Name};
 
 /// A box of 10 by 10 at (x, 0).
 fn a_box(name: Name, x: i32) -> Edit
-    ensures { is_built_edit result ≡ true }
+    ensures { is_link_edit result ≡ false }
 {
     Edit::Put {
         name,
@@ -27,6 +28,16 @@ fn a_box(name: Name, x: i32) -> Edit
         w: 10,
         h: 10,
     }
+}
+
+/// Whether no compound, group or page stands, so that a frame can be made.
+fn is_free(book: &Book) -> bool
+    ensures { IsTrue result → IsUnconstrained (scene_at book.now.history) }
+{
+    let scene = book.scene();
+    scene.count(Sort::Compound) == 0
+        && scene.count(Sort::Group) == 0
+        && scene.count(Sort::Page) == 0
 }
 
 #[test]
@@ -56,14 +67,18 @@ fn frames_are_entered_until_none_is_wanted(rt: HostRuntime) -> Result<(), Fail> 
     let alloc = rt.alloc();
     let name = Name::of(b"a").ok_or("a name")?;
     let mut book = Book::new(alloc, 2);
+    assert!(rt; is_free(&book));
     assert_eq!(rt; book.layout(alloc, 1, 2), Laid::Published { place: 0 });
+    assert!(rt; is_free(&book));
     assert_eq!(rt; book.layout(alloc, 1, 3), Laid::Idle { front: 1 });
     assert_eq!(rt; book.edit(alloc, 1, 4, a_box(name, 3)), Ok(1));
+    assert!(rt; is_free(&book));
     assert_eq!(rt; book.layout(alloc, 1, 5), Laid::Published { place: 2 });
     let spent = Laid::Spent {
         frames: 2,
         front: 3,
     };
+    assert!(rt; is_free(&book));
     assert_eq!(rt; book.layout(alloc, 1, 6), spent);
     let _named: Option<Refusal> = None;
     Ok(())
@@ -169,7 +184,7 @@ fn hold_often(book: &mut Book, alloc: Global, name: Name) -> bool {
 
 /// Whether an edit is refused since 20,000 entries stand.
 fn is_full(book: &mut Book, alloc: Global, edit: Edit) -> bool
-    requires { is_built_edit edit ≡ true }
+    requires { is_link_edit edit ≡ false }
 {
     let full = Refused {
         refusal: Refusal::Limit {
@@ -211,10 +226,13 @@ fn a_document_is_ended_and_finished(rt: HostRuntime) -> Result<(), Fail> {
     };
     assert_eq!(rt; book.end(), Err(ended));
     let ending = Laid::Ending { place: 0, front: 1 };
+    assert!(rt; is_free(&book));
     assert_eq!(rt; book.layout(alloc, 1, 2), ending);
     assert!(rt; is_ended(&book));
+    assert!(rt; is_free(&book));
     assert_eq!(rt; book.finish(alloc), Finish::Published { place: 1 });
     assert!(rt; is_ended(&book));
+    assert!(rt; is_free(&book));
     assert_eq!(rt; book.finish(alloc), Finish::Settled { place: 1 });
     Ok(())
 }

@@ -9,7 +9,7 @@ use Rattle.scene_model.specs.Diagram.{Diagram}
 use Rattle.multiplier_check.specs.declared.certificate.Certificate.{Certificate}
 use Rattle.doc_book.proofs.Growing.{scene_at-push, scene_of-push}
 use Rattle.doc_book.proofs.Keeping.{few_moves_at}
-use Rattle.doc_book.proofs.Refusing.{scene_accepts}
+use Rattle.doc_book.proofs.Refusing.{accepted, scene_accepts}
 use Rattle.doc_book.specs.declared.entries.Entry.{Entry}
 use Rattle.doc_book.specs.declared.entries.Act.{Act}
 use Rattle.doc_book.specs.declared.entries.Act.TheVariants as act
@@ -36,7 +36,7 @@ scene_after-push h e = scene_at-push h e ∙ scene_of_after (standing h) e.act
 -- ---- what may follow
 
 accepts : (h : List Entry) (budget : ℕ) (e : Entry) (a : Act) → length h ≤ 4294967294 → ActMayFollow h budget e a → IsAccepting (scene_at h) a
-accepts h budget e (act.Edit edit) short may = (scene_accepts h edit may.1, few_moves_at h 4294967294 short)
+accepts h budget e (act.Edit edit) short may = (scene_accepts h edit (accepted h edit may.1).0, few_moves_at h 4294967294 short)
 accepts h budget e (act.Frame f) short may = tt
 accepts h budget e act.End short may = tt
 

@@ -1,5 +1,5 @@
 -- Right replies can be shown in a listing.
-use Rattle.std.proofs.Common.{◌≡◌, ℕ, suc, List, [], ◌∷◌, take, Some, refl, ap, ◌∙◌}
+use Rattle.std.proofs.Common.{◌≡◌, ℕ, suc, List, [], ◌∷◌, take, Some, refl, ap, subst, ◌∙◌}
 use Rattle.edit_rules.specs.declared.refusals.Refusal.{Refusal}
 use Rattle.edit_rules.specs.declared.refusals.Refusal.TheVariants as refusal
 use Rattle.script_text.specs.declared.scripts.Command.{Command}
@@ -9,13 +9,14 @@ use Rattle.doc_book.specs.declared.entries.Entry.{Entry}
 use Rattle.doc_book.specs.declared.replies.Reply.{Reply}
 use Rattle.doc_book.specs.declared.replies.Reply.TheVariants as reply
 use Rattle.doc_book.specs.History.{scene_at}
+use Rattle.doc_book.specs.Verdicts.{IsVerdict}
 use Rattle.doc_book.specs.Replies.{IsRefused, IsRightReply, AreRightReplies, after_of}
 use Rattle.listing_text.specs.Replies.{HasText, HaveReplies}
-use Rattle.listing_text.proofs.Causes.{verdict-not_memory, ask_refusal-not_memory}
+use Rattle.listing_text.proofs.Causes.{IsVerdict-not_memory, ask_refusal-not_memory}
 
 -- what is refused rightly is not refused for want of memory
 not_memory : (h : List Entry) (budget front : ℕ) (r : Refusal) (c : Command) → IsRefused h budget front r c → r ≡ refusal.Memory → ⊥
-not_memory h budget front r (command.Edit e) is same = verdict-not_memory (take front h) e (is ∙ ap Some same)
+not_memory h budget front r (command.Edit e) is same = IsVerdict-not_memory (take front h) e (subst (λ c. IsVerdict (take front h) e (Some c)) same is)
 not_memory h budget front r command.Layout is same = let other = is.1 in cc
 not_memory h budget front r (command.Where name) is same = ask_refusal-not_memory (scene_at (take front h)) name (is ∙ ap Some same)
 

@@ -6,6 +6,7 @@ mod frames;
 mod listing;
 mod putting;
 mod replies;
+mod walks;
 mod words;
 
 pub use listing::write_listing;
