@@ -12,7 +12,7 @@ use units::{Axis, Members, Name};
 
 /// What an edit is answered.
 #[derive(Clone, Copy, Debug, PartialEq, Eq)]
-enum Answer {
+enum Answered {
     Entered,
     Infeasible {
         axis: Axis,
@@ -57,8 +57,8 @@ enum Step {
     },
 }
 
-const fn infeasible(axis: Axis, arcs: usize, back: usize) -> Answer {
-    Answer::Infeasible { axis, arcs, back }
+const fn infeasible(axis: Axis, arcs: usize, back: usize) -> Answered {
+    Answered::Infeasible { axis, arcs, back }
 }
 
 fn named(letter: u8) -> Result<Name, Fail> {
@@ -139,55 +139,55 @@ fn count_back(walk: &Walk) -> usize {
 }
 
 /// What the book answers to the edit.
-fn answer(alloc: Global, book: &mut Book, edit: Edit) -> Answer
+fn answer_to(alloc: Global, book: &mut Book, edit: Edit) -> Answered
     requires { is_link_edit edit ≡ false }
 {
     match book.edit(alloc, 1, 2, edit) {
-        Ok(_) => Answer::Entered,
+        Ok(_) => Answered::Entered,
         Err(Refused { refusal, .. }) => match &refusal {
             Refusal::Infeasible { axis, walk } => {
                 infeasible(*axis, walk.arcs().len(), count_back(walk))
             }
-            _ => Answer::Otherwise,
+            _ => Answered::Otherwise,
         },
     }
 }
 
 /// Whether each edit is answered so.
-fn are_answered(alloc: Global, book: &mut Book, rows: &[(Step, Answer)]) -> Result<(), Fail> {
+fn are_answered(alloc: Global, book: &mut Book, rows: &[(Step, Answered)]) -> Result<(), Fail> {
     for (step, wanted) in rows {
-        if answer(alloc, book, edit_of(alloc, *step)?) != *wanted {
+        if answer_to(alloc, book, edit_of(alloc, *step)?) != *wanted {
             return Err("another answer".into());
         }
     }
     Ok(())
 }
 
-const A: (Step, Answer) = (
+const A: (Step, Answered) = (
     Step::Box {
         name: b'a',
         x: 0,
         w: 40,
     },
-    Answer::Entered,
+    Answered::Entered,
 );
 
-const B: (Step, Answer) = (
+const B: (Step, Answered) = (
     Step::Box {
         name: b'b',
         x: 40,
         w: 40,
     },
-    Answer::Entered,
+    Answered::Entered,
 );
 
-const C: (Step, Answer) = (
+const C: (Step, Answered) = (
     Step::Box {
         name: b'c',
         x: 80,
         w: 40,
     },
-    Answer::Entered,
+    Answered::Entered,
 );
 
 fn least(name: u8, axis: Axis, a: u8, b: u8, gap: i32) -> Step {
@@ -217,19 +217,19 @@ fn cycles_of_two_separations(rt: HostRuntime) -> Result<(), Fail> {
     let rows = [
         A,
         B,
-        (least(b's', Axis::X, b'a', b'b', 10), Answer::Entered),
+        (least(b's', Axis::X, b'a', b'b', 10), Answered::Entered),
         (
             least(b't', Axis::X, b'b', b'a', -9),
             infeasible(Axis::X, 2, 0),
         ),
-        (least(b't', Axis::X, b'b', b'a', -10), Answer::Entered),
-        (exact(b'u', Axis::Y, b'a', b'b', 10), Answer::Entered),
+        (least(b't', Axis::X, b'b', b'a', -10), Answered::Entered),
+        (exact(b'u', Axis::Y, b'a', b'b', 10), Answered::Entered),
         (
             least(b'v', Axis::Y, b'a', b'b', 11),
             infeasible(Axis::Y, 2, 1),
         ),
-        (Step::Drop { name: b'u' }, Answer::Entered),
-        (least(b'v', Axis::Y, b'a', b'b', 11), Answer::Entered),
+        (Step::Drop { name: b'u' }, Answered::Entered),
+        (least(b'v', Axis::Y, b'a', b'b', 11), Answered::Entered),
     ];
     are_answered(alloc, &mut book, &rows)
 }
@@ -246,9 +246,9 @@ fn cycles_through_a_rigid_page(rt: HostRuntime) -> Result<(), Fail> {
         (Step::Page { w: 40, h: 9 }, infeasible(Axis::Y, 3, 1)),
         B,
         C,
-        (Step::Rank, Answer::Entered),
+        (Step::Rank, Answered::Entered),
         (Step::Page { w: 100, h: 100 }, infeasible(Axis::X, 5, 1)),
-        (Step::Page { w: 120, h: 100 }, Answer::Entered),
+        (Step::Page { w: 120, h: 100 }, Answered::Entered),
     ];
     are_answered(alloc, &mut book, &rows)
 }
