@@ -15,7 +15,7 @@ use Rattle.doc_book.specs.declared.replies.Reply.{Reply}
 use Rattle.doc_book.specs.declared.replies.Reply.TheVariants as reply
 use Rattle.doc_book.specs.History.{scene_at}
 use Rattle.doc_book.specs.Spots.{ask_refusal}
-use Rattle.doc_book.specs.Verdicts.{verdict}
+use Rattle.doc_book.specs.Verdicts.{IsVerdict}
 use Rattle.doc_book.specs.Replies.{Ending, Spent, Idle, IsLook, IsEntryAt, IsFrameAct, IsAccepted, IsRefused, IsAnswered, IsRightReply, AreRightReplies, OwnEntriesAre, own_entries, made_place, after_of}
 
 -- ---- an element, and the front of a list
@@ -39,12 +39,12 @@ IsEntryAt-append h more place who line P at = (at.0, slice_get-append h more pla
 IsAccepted-append : (h more : List Entry) (who line place : ℕ) (c : Command) → IsAccepted h who line place c → IsAccepted (h ++ more) who line place c
 IsAccepted-append h more who line place (command.Edit e) is =
     let within : place < length h = slice_get_within h place is.0.0 is.0.1 in
-    (IsEntryAt-append h more place who line _ is.0, subst (λ (t : List Entry). verdict t e ≡ None) (front-same h more place (omega arith)) is.1)
+    (IsEntryAt-append h more place who line _ is.0, subst (λ (t : List Entry). IsVerdict t e None) (front-same h more place (omega arith)) is.1)
 IsAccepted-append h more who line place command.Layout is = is
 IsAccepted-append h more who line place (command.Where name) is = is
 
 IsRefused-append : (h more : List Entry) (budget front : ℕ) (r : Refusal) (c : Command) → front ≤ length h → IsRefused h budget front r c → IsRefused (h ++ more) budget front r c
-IsRefused-append h more budget front r (command.Edit e) le is = subst (λ (t : List Entry). verdict t e ≡ Some r) (front-same h more front le) is
+IsRefused-append h more budget front r (command.Edit e) le is = subst (λ (t : List Entry). IsVerdict t e (Some r)) (front-same h more front le) is
 IsRefused-append h more budget front r command.Layout le is =
     (is.0, is.1, subst (λ (t : List Entry). IsLook t budget (Ending is.0)) (front-same h more front le) is.2)
 IsRefused-append h more budget front r (command.Where name) le is = subst (λ (t : List Entry). ask_refusal (scene_at t) name ≡ Some r) (front-same h more front le) is

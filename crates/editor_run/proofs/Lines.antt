@@ -8,8 +8,10 @@ use Rattle.script_text.specs.declared.scripts.Line.{Line}
 use Rattle.doc_book.specs.declared.entries.Entry.{Entry}
 use Rattle.doc_book.specs.declared.replies.Reply.{Reply}
 use Rattle.doc_book.specs.Document.{Document}
+use Rattle.doc_book.specs.History.{scene_at}
 use Rattle.doc_book.specs.Listing.{session_lines}
 use Rattle.doc_book.specs.Replies.{IsRightReply, AreRightReplies, OwnEntriesAre, own_entries, made_place, after_of, from_of}
+use Rattle.doc_book.specs.Unconstrained.{IsUnconstrained}
 use Rattle.editor_run.specs.Played.{ForSessions}
 use Rattle.editor_run.specs.Progress.{Adds, PlaysLine, HasReplies, HasPlayed, IsSessionLine, IsSessionEntry, with_reply}
 use Rattle.editor_run.proofs.Elements.{all-push, all-then, all-at}
@@ -165,6 +167,7 @@ pub HasPlayed-none : (document : Document) → document.history ≡ [] → (list
 HasPlayed-none document empty lists are = subst (HasPlayed document []) (sym are) (record {
   entries = subst (AllByRecursion IsSessionEntry) (sym empty) tt;
   eight = refl;
+  free = subst (λ (h : List Entry). IsUnconstrained (scene_at h)) (sym empty) (record { compounds = refl; groups = refl; pages = refl });
   each = ForSessions-empty (HasReplies document []) 8 1 (λ t le. record { right = tt; own = subst (λ (h : List Entry). OwnEntriesAre h t []) (sym empty) refl; seen = tt });
 })
 
@@ -175,6 +178,7 @@ HasPlayed-push old new ls lists l r played session plays =
     record {
       entries = g.entries played.entries;
       eight = length-slice_set lists (l.session - 1) _ ∙ played.eight;
+      free = plays.free played.free;
       each = ForSessions-set (HasReplies old ls) (HasReplies new (ls ++ l ∷ [])) l.session 1 (l.session - 1) lists _ (omega (arith, session.0))
           (λ t rs other has. HasReplies-other old new ls l t rs g plays.budget other has)
           (λ has. HasReplies-this old new ls l r _ g plays has)

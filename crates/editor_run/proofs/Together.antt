@@ -13,10 +13,11 @@ use Rattle.doc_book.specs.declared.replies.Reply.{Reply}
 use Rattle.doc_book.specs.Document.{Document}
 use Rattle.doc_book.specs.Finished.{IsFinishing}
 use Rattle.doc_book.specs.Growing.{entry_of}
-use Rattle.doc_book.specs.History.{end_place, after_end, is_end}
+use Rattle.doc_book.specs.History.{end_place, after_end, is_end, scene_at}
 use Rattle.doc_book.specs.Listing.{session_lines}
 use Rattle.doc_book.specs.Replies.{AreRightReplies, OwnEntriesAre, after_of}
-use Rattle.doc_book.proofs.Growing.{end_place-push_end, end_place-push_some, after_end-push_end}
+use Rattle.doc_book.specs.Unconstrained.{IsUnconstrained}
+use Rattle.doc_book.proofs.Growing.{scene_at-push, end_place-push_end, end_place-push_some, after_end-push_end}
 use Rattle.editor_run.specs.Finishing.{GrowsByFinishing}
 use Rattle.editor_run.specs.Played.{ForSessions, AreOwnEntries, HaveRightReplies, AreCallers}
 use Rattle.editor_run.specs.Progress.{HasReplies, HasPlayed, IsSessionLine, IsSessionEntry}
@@ -92,6 +93,11 @@ ended_place d0 d1 lines lists p ended = ap (λ (d : Document). end_place d.histo
 
 pub ended_last : (d0 d1 : Document) (lines : List Line) (lists : List (List Reply)) → HasPlayed d0 lines lists → d1 ≡ ended_now d0 → after_end d1.history ≡ []
 ended_last d0 d1 lines lists p ended = ap (λ (d : Document). after_end d.history) ended ∙ after_end-push_end d0.history (entry_of 0 0 act.End) (not_ended_by d0.history p.entries) refl
+
+-- no compound, group or page stands
+pub ended_free : (d0 d1 : Document) (lines : List Line) (lists : List (List Reply)) → HasPlayed d0 lines lists → d1 ≡ ended_now d0 → IsUnconstrained (scene_at d1.history)
+ended_free d0 d1 lines lists p ended =
+    subst IsUnconstrained (sym (ap (λ (d : Document). scene_at d.history) ended ∙ scene_at-push d0.history (entry_of 0 0 act.End))) p.free
 
 pub finished_own : (d0 d1 d2 : Document) (lines : List Line) (lists all : List (List Reply)) → HasPlayed d0 lines lists → d1 ≡ ended_now d0 → GrowsByFinishing d1 d2
     → all ≡ lists → AreOwnEntries d2 all

@@ -8,9 +8,10 @@ use Rattle.script_text.specs.Commands.{command_keyword}
 use Rattle.doc_book.specs.declared.entries.Entry.{Entry}
 use Rattle.doc_book.specs.declared.replies.Reply.{Reply}
 use Rattle.doc_book.specs.Document.{Document}
-use Rattle.doc_book.specs.History.{is_end}
+use Rattle.doc_book.specs.History.{is_end, scene_at}
 use Rattle.doc_book.specs.Listing.{session_lines}
 use Rattle.doc_book.specs.Replies.{IsRightReply, AreRightReplies, OwnEntriesAre, made_place, after_of, from_of}
+use Rattle.doc_book.specs.Unconstrained.{IsUnconstrained}
 use Rattle.editor_run.specs.Played.{ForSessions}
 
 -- a line's reply added this to the history: nothing, or one entry of the line's session, which isn't End
@@ -19,13 +20,15 @@ Adds old new session reply =
     ((new ≡ old) × (made_place reply ≡ None))
     ⊎ ((e : Entry) × (new ≡ old ++ e ∷ []) × (e.who ≡ session) × (is_end e ≡ false) × (made_place reply ≡ Some (length old)))
 
--- one line was played: its reply is right, was given at the history as it stood, and shows the history as it stands
+-- one line was played: its reply is right, was given at the history as it stood, and shows the history as it stands; and it
+-- made no compound, group or page
 pub record PlaysLine (old new : Document) (line : Line) (reply : Reply) : Type 0 where
   pub budget : new.budget ≡ old.budget
   pub right : IsRightReply new.history new.budget line.session line reply
   pub from : from_of reply ≡ length old.history
   pub after : after_of reply ≡ length new.history
   pub adds : Adds old.history new.history line.session reply
+  pub free : IsUnconstrained (scene_at old.history) → IsUnconstrained (scene_at new.history)
 
 -- a line of a session 1 to 8, of a command that is built
 abbrev pub IsSessionLine : Line → Type 0
@@ -48,8 +51,10 @@ pub record HasReplies (document : Document) (lines : List Line) (session : ℕ) 
   pub own : OwnEntriesAre document.history session replies
   pub seen : AllByRecursion (λ r. after_of r ≤ length document.history) replies
 
--- lines were played from the empty history on, each for its session; there is a list of replies for each session
+-- lines were played from the empty history on, each for its session; there is a list of replies for each session, and
+-- no compound, group or page stands
 pub record HasPlayed (document : Document) (lines : List Line) (lists : List (List Reply)) : Type 0 where
   pub entries : AllByRecursion IsSessionEntry document.history
   pub eight : length lists ≡ last_session
   pub each : ForSessions 1 (HasReplies document lines) lists
+  pub free : IsUnconstrained (scene_at document.history)

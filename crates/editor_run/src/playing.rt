@@ -2,6 +2,8 @@
 ghost use Rattle.std.specs.Prelude.{◌≡◌, ◌≤◌, true, [], ◌∷◌, ◌++◌, length, replicate, IfOk, OnOk};
 ghost use Rattle.std.specs.List.{AllByRecursion};
 ghost use Rattle.doc_book.specs.declared.replies.Reply.{Reply as ReplyValue};
+ghost use Rattle.doc_book.specs.History.{scene_at};
+ghost use Rattle.doc_book.specs.Unconstrained.{IsUnconstrained};
 ghost use Rattle.script_text.specs.Keywords.{is_built};
 ghost use Rattle.script_text.specs.Commands.{command_keyword};
 ghost use Rattle.editor_run.specs.Progress.{PlaysLine, HasPlayed, IsSessionLine, with_reply};
@@ -19,7 +21,8 @@ pub fn play_line(
     line: &Line,
     replies: &mut Sequence<Reply>,
 ) -> Result<(), Memory>
-    requires { is_built (command_keyword line.now.command) ≡ true }
+    requires built { is_built (command_keyword line.now.command) ≡ true }
+    requires free { IsUnconstrained (scene_at book.old.history) }
     ensures { OnOk result ((reply : ReplyValue) × PlaysLine book.old book.new line.now reply × (replies.new ≡ replies.old ++ reply ∷ [])) }
 {
     match &line.command {
@@ -61,6 +64,7 @@ fn play_next(
     requires first { 1 ≤ line.now.session }
     requires last { line.now.session ≤ length lists.old.items }
     requires built { is_built (command_keyword line.now.command) ≡ true }
+    requires free { IsUnconstrained (scene_at book.old.history) }
     ensures { OnOk result ((reply : ReplyValue) × PlaysLine book.old book.new line.now reply
         × (lists.new.items ≡ with_reply lists.old.items line.now.session reply)) }
 {

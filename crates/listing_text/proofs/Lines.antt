@@ -1,5 +1,5 @@
 -- Lines of words, and the lists that give them.
-use Rattle.std.proofs.Common.{◌≡◌, ℕ, ◌+◌, ◌<◌, ℤ, List, [], ◌∷◌, ◌++◌, length, drop, get_or, refl, sym, ap, ◌∙◌, append_assoc, arith, length-append, eq-eqb, ne_eqb}
+use Rattle.std.proofs.Common.{◌≡◌, ℕ, ◌+◌, ◌<◌, ℤ, List, [], ◌∷◌, ◌++◌, length, drop, map, get_or, refl, sym, ap, ◌∙◌, append_assoc, arith, length-append, eq-eqb, ne_eqb}
 use Rattle.std.specs.Prelude.{codes, decimal, ◌==◌, true, false, cond, slice_get, Some, pos, Bool, Result, Ok, Err, OnOk}
 use Rattle.std.specs.Fmt.{signed_decimal}
 use Rattle.std.specs.Ordering.{int_eq}
@@ -9,6 +9,7 @@ use Rattle.std.proofs.lemmas.List.{append-nil, drop_more}
 use Rattle.std.proofs.lemmas.Option.{get_or_from_slice_get, slice_get_within}
 use Rattle.units.specs.declared.geometry.Axis.{Axis}
 use Rattle.scene_model.specs.declared.variables.Variable.{Variable}
+use Rattle.cycle_test.specs.declared.arc.CycleArc.{CycleArc}
 use Rattle.frac128.specs.Fraction.{Fraction}
 use Rattle.script_text.specs.Words.{Word, spaced, behind}
 use Rattle.script_text.specs.Commands.{command_words}
@@ -17,7 +18,7 @@ use Rattle.doc_book.specs.declared.replies.Reply.{Reply}
 use Rattle.doc_book.specs.declared.entries.Entry.{Entry}
 use Rattle.script_text.specs.Grammar.{axis_word}
 use Rattle.listing_text.proofs.Elements.{rest_of}
-use Rattle.doc_book.specs.Listing.{text_line, text_lines, variable_word, fraction_word, place_lines, multiplier_lines, reply_lines, reply_words, session_lines, entry_lines, sessions_lines, listing_text}
+use Rattle.doc_book.specs.Listing.{arc_word, text_line, text_lines, variable_word, fraction_word, place_lines, multiplier_lines, reply_lines, reply_words, session_lines, entry_lines, sessions_lines, listing_text}
 
 pub text_lines-append : (ls ms : List (List Word)) → text_lines (ls ++ ms) ≡ text_lines ls ++ text_lines ms
 text_lines-append [] ms = refl
@@ -104,6 +105,11 @@ multipliers_more axis ms k m below is other = ap (λ fs. text_lines (multiplier_
 
     shown : multiplier_lines axis k (m ∷ drop (k + 1) ms) ≡ (axis_word axis ∷ (35 ∷ decimal k) ∷ fraction_word m ∷ []) ∷ multiplier_lines axis (k + 1) (drop (k + 1) ms)
     shown = ap (λ b. cond b (multiplier_lines axis (k + 1) (drop (k + 1) ms)) ((axis_word axis ∷ (35 ∷ decimal k) ∷ fraction_word m ∷ []) ∷ multiplier_lines axis (k + 1) (drop (k + 1) ms))) (int_eq-false m.num other)
+
+-- the arcs of a cycle that are left begin with the next
+pub arcs_more : (arcs : List CycleArc) (k : ℕ) (out : CycleArc) → k < length arcs
+    → behind (map arc_word (drop k arcs)) ≡ 32 ∷ arc_word (get_or arcs k out) ++ behind (map arc_word (drop (k + 1) arcs))
+arcs_more arcs k out below = ap (λ (left : List CycleArc). behind (map arc_word left)) (drop_more arcs k out below)
 
 -- a text grows by a line of the rest
 pub grows : (text text' line rest rest' whole : List ℕ) → text' ≡ text ++ line → rest ≡ line ++ rest' → text ++ rest ≡ whole → text' ++ rest' ≡ whole

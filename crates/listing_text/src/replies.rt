@@ -9,7 +9,7 @@ ghost use Rattle.listing_text.specs.Putting.{Puts};
 ghost use Rattle.listing_text.specs.Replies.{SessionsHaveReplies};
 
 use crate::putting::put;
-use crate::walks::add_walk;
+use crate::walks::add_infeasible;
 use crate::words::{add_count, add_number, add_word, axis_word, begin_with};
 use byte_edge::{Sink, SinkStop};
 use doc_book::{Answer, Reply, Spot};
@@ -68,11 +68,7 @@ fn add_refusal(text: &mut Vec<u8>, refusal: &Refusal) -> Result<(), AllocError>
             add_word(text, counted_word(*what))?;
             add_count(text, *count)
         }
-        Refusal::Infeasible { axis, walk } => {
-            add_word(text, b"infeasible")?;
-            add_word(text, axis_word(*axis))?;
-            add_walk(text, walk.arcs())
-        }
+        Refusal::Infeasible { axis, walk } => add_infeasible(text, *axis, walk),
         Refusal::Ended { place } => {
             add_word(text, b"ended")?;
             add_count(text, *place)

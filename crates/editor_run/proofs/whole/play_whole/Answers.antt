@@ -4,7 +4,7 @@ use Rattle.std.specs.Option.{is_some}
 use Rattle.script_text.specs.declared.scripts.Line.{Line}
 use Rattle.editor_run.specs.Played.{HaveRightReplies}
 use Rattle.editor_run.specs.Progress.{IsSessionLine}
-use Rattle.editor_run.proofs.Together.{of_sessions, not_ended_by, ended_place, ended_last, finished_own, finished_replies, finished_callers}
+use Rattle.editor_run.proofs.Together.{of_sessions, not_ended_by, ended_place, ended_last, ended_free, finished_own, finished_replies, finished_callers}
 use Rattle.editor_run.proofs.whole.play_whole.Goals as goal
 
 pub play_lines-requires-clause-sessions : goal.play_lines-requires-clause-sessions
@@ -20,6 +20,9 @@ finish_all-requires-clause-ended c =
 
 pub finish_all-requires-clause-last : goal.finish_all-requires-clause-last
 finish_all-requires-clause-last c = ended_last c.play_lines.new.book c.end.new.book c.lines.result.now c.in_ok-lists.lists.items c.in_ok-lists.ensures.played c.in_ok-end.ensures
+
+pub finish_all-requires-clause-free : goal.finish_all-requires-clause-free
+finish_all-requires-clause-free c = ended_free c.play_lines.new.book c.end.new.book c.lines.result.now c.in_ok-lists.lists.items c.in_ok-lists.ensures.played c.in_ok-end.ensures
 
 pub returns-clause-own_entries : goal.returns-clause-own_entries
 returns-clause-own_entries c =
