@@ -18,7 +18,8 @@ use Rattle.doc_book.specs.declared.entries.Act.TheVariants as act
 use Rattle.doc_book.specs.History.{edits_after, standing, scene_at}
 use Rattle.doc_book.specs.Legal.{AllMayFollow, ActMayFollow, IsLegal}
 use Rattle.doc_book.specs.Standing.{IsAcceptedBy, AllAccepted, AreAccepted}
-use Rattle.doc_book.specs.Verdicts.{IsFeasibleAxis, IsFeasibility}
+use Rattle.axis_project.specs.Feasibility.{IsFeasibleAxis}
+use Rattle.doc_book.specs.Verdicts.{IsFeasibility}
 use Rattle.doc_book.proofs.Growing.{fold-push}
 use Rattle.doc_book.proofs.Refusing.{accepted, scene_accepts}
 

@@ -24,7 +24,7 @@ use Rattle.doc_book.specs.Growing.{entry_of}
 use Rattle.doc_book.specs.History.{edits_after, standing, scene_at, places_at, is_end, is_frame, end_place, after_end, frame_count}
 use Rattle.doc_book.specs.Kept.{IsKept, IsUncrowded, IsOpenCount, IsEndedCount}
 use Rattle.doc_book.specs.Legal.{HasRoom, most_finishing}
-use Rattle.doc_book.specs.Projection.{IsShown}
+use Rattle.axis_project.specs.Projection.{IsShown}
 use Rattle.doc_book.specs.Verdicts.{IsVerdict, is_link_edit}
 use Rattle.doc_book.proofs.Growing.{fold-push, scene_at-push, scene_of-push, places_at-push, IsLegal-push, IsSettled-push, IsSettled-push_frame, IsSettled-push_same, end_place-push_none, end_place-push_end, end_place-push_some, after_end-push_some, after_end-push_end}
 use Rattle.doc_book.proofs.Refusing.{accepted, not_ended, not_full}

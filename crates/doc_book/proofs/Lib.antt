@@ -3,7 +3,5 @@ pub mod Growing
 pub mod Keeping
 pub mod Refusing
 pub mod Resting
-pub mod Separated
-pub mod Spots
 pub mod EndPlace
 pub mod Unconstrained

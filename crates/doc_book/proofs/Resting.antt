@@ -27,7 +27,7 @@ use Rattle.multiplier_check.specs.Certificate.{fraction_at, IsNear, IsBalanced, 
 use Rattle.multiplier_check.proofs.Law.{certificate_projection, IsLeast-same}
 use Rattle.frame_store.specs.declared.places.Places.{Places}
 use Rattle.doc_book.specs.Frames.{IsFrameOf}
-use Rattle.doc_book.specs.Projection.{weights, problem_of, IsShown}
+use Rattle.axis_project.specs.Projection.{weights, problem_of, IsShown}
 use Rattle.doc_book.specs.Unconstrained.{IsUnconstrained}
 use Rattle.doc_book.proofs.Unconstrained.{separations-none, Fits-all}
 

@@ -6,7 +6,7 @@ use Rattle.scene_model.specs.Diagram.{Diagram}
 use Rattle.frame_store.specs.declared.places.Places.{Places}
 use Rattle.frame_store.specs.declared.places.Desired.{Desired}
 use Rattle.frame_store.specs.declared.frames.Frame.{Frame}
-use Rattle.doc_book.specs.Projection.{IsShown}
+use Rattle.axis_project.specs.Projection.{IsShown}
 
 -- the desired places of the next step: without links each variable is to stay at its clamped place (the first
 -- step of a descent on stress, which is this project's own)

@@ -7,7 +7,6 @@ pub mod History
 pub mod Kept
 pub mod Legal
 pub mod Listing
-pub mod Projection
 pub mod Replies
 pub mod Spots
 pub mod Standing

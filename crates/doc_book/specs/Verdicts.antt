@@ -5,7 +5,8 @@ use Rattle.units.specs.declared.geometry.Axis.{Axis}
 use Rattle.units.specs.declared.geometry.Axis.TheVariants.{X, Y}
 use Rattle.scene_model.specs.Diagram.{Diagram}
 use Rattle.scene_model.specs.Separations.{separations}
-use Rattle.cycle_test.specs.Cycle.{IsPositiveCycle, HasPositiveCycle}
+use Rattle.cycle_test.specs.Cycle.{IsPositiveCycle}
+use Rattle.axis_project.specs.Feasibility.{IsFeasibleAxis}
 use Rattle.edit_rules.specs.declared.edits.Edit.{Edit}
 use Rattle.edit_rules.specs.declared.edits.Edit.TheVariants as edit
 use Rattle.edit_rules.specs.declared.refusals.Refusal.{Refusal}
@@ -32,10 +33,6 @@ entries_refusal h = if nat_le most_entries (length h) then Some (refusal.Limit c
 -- history is full, or its scene refuses the edit
 unfoldable pub cause_at : List Entry → Edit → Option Refusal
 cause_at h e = first_of (ended_refusal h ∷ entries_refusal h ∷ refusal_of (scene_at h) e ∷ [])
-
--- the separations of the scene on the axis have no positive cycle, so that some places satisfy them
-abbrev pub IsFeasibleAxis : Diagram → Axis → Type 0
-IsFeasibleAxis scene axis = HasPositiveCycle (separations scene axis) → ⊥
 
 -- what feasibility says of an edited scene: nothing, where neither axis has a positive cycle; else a positive cycle of the
 -- first axis that has one, whichever, by the numbers that the separations have in the edited scene

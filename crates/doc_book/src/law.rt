@@ -9,7 +9,8 @@ ghost use Rattle.doc_book.specs.declared.entries.Entry.{Entry as EntryValue};
 ghost use Rattle.doc_book.specs.History.{scene_at, standing};
 ghost use Rattle.doc_book.specs.Legal.{IsLegal};
 ghost use Rattle.doc_book.specs.Standing.{AreAccepted};
-ghost use Rattle.doc_book.specs.Verdicts.{IsFeasibleAxis, IsVerdict};
+ghost use Rattle.axis_project.specs.Feasibility.{IsFeasibleAxis};
+ghost use Rattle.doc_book.specs.Verdicts.{IsVerdict};
 
 /// **The law of feasible scenes**: each standing edit of a legal history was accepted by the scene of the standing edits
 /// before it. So the scene has no positive cycle on either axis, and some whole places satisfy its separations.

@@ -16,7 +16,7 @@ use Rattle.doc_book.specs.declared.entries.Act.TheVariants as act
 use Rattle.doc_book.specs.History.{scene_at, standing, edits_after}
 use Rattle.doc_book.specs.Legal.{ActMayFollow, AllMayFollow}
 use Rattle.doc_book.specs.Listing.{text_lines, lines_of, entry_lines}
-use Rattle.doc_book.specs.Projection.{IsShown}
+use Rattle.axis_project.specs.Projection.{IsShown}
 use Rattle.listing_text.specs.Steps.{scene_after, IsAccepting, HasPlaces, IsPlacing}
 use Rattle.listing_text.proofs.Elements.{rest_of, front_of}
 use Rattle.listing_text.proofs.Lines.{text_lines-append}

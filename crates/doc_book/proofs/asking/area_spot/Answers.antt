@@ -1,5 +1,5 @@
 use Rattle.units.specs.declared.geometry.Axis.TheVariants as axes
-use Rattle.doc_book.proofs.Spots.{area_has_variables}
+use Rattle.axis_project.proofs.ItemVariables.{area_has_variables}
 use Rattle.doc_book.proofs.asking.area_spot.Goals as goal
 
 pub place-requires-clause-stands : goal.place-requires-clause-stands

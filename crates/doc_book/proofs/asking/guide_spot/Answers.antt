@@ -1,4 +1,4 @@
-use Rattle.doc_book.proofs.Spots.{guide_has_variable, guide_whole}
+use Rattle.axis_project.proofs.ItemVariables.{guide_has_variable, guide_whole}
 use Rattle.doc_book.proofs.asking.guide_spot.Goals as goal
 
 pub place-requires-clause-stands : goal.place-requires-clause-stands

@@ -1,5 +1,5 @@
 use Rattle.units.specs.declared.geometry.Axis.TheVariants as axes
-use Rattle.doc_book.proofs.Spots.{shape_has_variable}
+use Rattle.axis_project.proofs.ItemVariables.{shape_has_variable}
 use Rattle.doc_book.proofs.asking.shape_spot.Goals as goal
 
 pub place-requires-clause-stands : goal.place-requires-clause-stands

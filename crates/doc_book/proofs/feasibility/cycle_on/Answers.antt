@@ -5,7 +5,7 @@ use Rattle.units.specs.declared.geometry.Sep.{Sep}
 use Rattle.units.specs.Problem.{IsSeparation}
 use Rattle.scene_model.proofs.Bounds.{variables-count}
 use Rattle.scene_model.specs.Separations.{separations}
-use Rattle.doc_book.proofs.Separated.{separations_sound}
+use Rattle.axis_project.proofs.Separated.{separations_sound}
 use Rattle.doc_book.proofs.feasibility.cycle_on.Goals as goal
 
 pub test-requires-clause-variables : goal.test-requires-clause-variables

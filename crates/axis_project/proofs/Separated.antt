@@ -31,7 +31,7 @@ use Rattle.scene_model.specs.Meaning.{size_of, line_offset}
 use Rattle.scene_model.specs.Separations.{between, on_guide, behind, rule_separations, within, edges_apart, group_separations, on_page, declared_size, page_separations, compound_separations, separations}
 use Rattle.scene_model.specs.Sound.{IsSound, IsShape, IsCompound, IsGroup, IsPage, HasGap, IsCoordinate, IsBorder}
 use Rattle.scene_model.proofs.Named.{is_some-position}
-use Rattle.doc_book.proofs.Spots.{any-front, any-behind, any-parts, any-shapes, is_of, of_shapes, of_guides, of_groups, of_pages}
+use Rattle.axis_project.proofs.ItemVariables.{any-front, any-behind, any-parts, any-shapes, is_of, of_shapes, of_guides, of_groups, of_pages}
 
 -- ---- lists of facts
 

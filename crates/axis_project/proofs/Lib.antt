@@ -1,0 +1,3 @@
+pub mod ItemVariables
+pub mod Projected
+pub mod Separated
