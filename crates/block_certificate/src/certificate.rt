@@ -3,10 +3,10 @@ ghost use Rattle.std.specs.Prelude.{◌≡◌, ◌<◌, ◌≤◌, ◌+◌, ◌+
 ghost use Rattle.std.specs.List.{All};
 ghost use Rattle.units.specs.Problem as stated;
 ghost use Rattle.multiplier_check.specs.Certificate.{IsCertificate};
-ghost use Rattle.block_sums.specs.Ends.{end_at, IsChained};
+ghost use Rattle.block_sums.specs.Ends.{AreChains};
 ghost use Rattle.block_sums.specs.Legs.{leg_at};
 ghost use Rattle.block_sums.specs.Loads.{load_at};
-ghost use Rattle.block_sums.specs.Solving.{IsActive, IsBounded, rest_at};
+ghost use Rattle.block_sums.specs.Solving.{IsActive, HasBounds, rest_at};
 ghost use Rattle.block_sums.specs.Rest.{IsSolved};
 ghost use Rattle.block_certificate.specs.Values.{place_of_leg, multiplier_of_leg, AreWritten, ArePlaced, AreSettled, AreReduced};
 
@@ -40,7 +40,7 @@ fn moved(moment: i64, weighed: i64) -> i64
 fn place_of_leg(block: &BlockSums, at: usize) -> Frac
     requires at { at < length block.now.legs.items }
     requires near { nat_abs (leg_at block.now.legs.items at).offset ≤ 257000000 }
-    requires bounded { IsBounded block.now.legs.items block.now.weights.items block.now.moments.items }
+    requires bounded { HasBounds block.now }
     requires heavy { pos 0 <ℤ load_at block.now.weights.items 0 }
     ensures { result ≡ place_of_leg block.now.legs.items block.now.weights.items block.now.moments.items at }
 {
@@ -54,7 +54,7 @@ fn place_of_leg(block: &BlockSums, at: usize) -> Frac
 /// The multiplier of the separation of a leg, over the weight of its block.
 fn multiplier_of_leg(block: &BlockSums, at: usize) -> Frac
     requires at { at < length block.now.legs.items }
-    requires bounded { IsBounded block.now.legs.items block.now.weights.items block.now.moments.items }
+    requires bounded { HasBounds block.now }
     requires heavy { pos 0 <ℤ load_at block.now.weights.items 0 }
     ensures { result ≡ multiplier_of_leg block.now.legs.items block.now.weights.items block.now.moments.items at }
 {
@@ -64,7 +64,7 @@ fn multiplier_of_leg(block: &BlockSums, at: usize) -> Frac
 /// Writes the multipliers of the separations of a block.
 fn write_multipliers(block: &BlockSums, multipliers: &mut [Frac])
     requires among { (j : ℕ) → 0 < j → j < length block.now.legs.items → (leg_at block.now.legs.items j).sep < length multipliers.old }
-    requires bounded { IsBounded block.now.legs.items block.now.weights.items block.now.moments.items }
+    requires bounded { HasBounds block.now }
     requires heavy { pos 0 <ℤ load_at block.now.weights.items 0 }
     ensures { AreWritten block.now.legs.items block.now.weights.items block.now.moments.items (length block.now.legs.items) multipliers.old multipliers.new }
 {
@@ -78,7 +78,7 @@ fn write_places(block: &BlockSums, places: &mut [Frac], placed: &mut [bool])
     requires among { All (λ leg. leg.variable < length places.old) block.now.legs.items }
     requires as_many { length placed.old ≡ length places.old }
     requires near { All (λ leg. nat_abs leg.offset ≤ 257000000) block.now.legs.items }
-    requires bounded { IsBounded block.now.legs.items block.now.weights.items block.now.moments.items }
+    requires bounded { HasBounds block.now }
     requires heavy { pos 0 <ℤ load_at block.now.weights.items 0 }
     ensures { ArePlaced block.now.legs.items block.now.weights.items block.now.moments.items (length block.now.legs.items) places.old places.new placed.old placed.new }
 {
@@ -104,8 +104,8 @@ fn settle(
     requires bounded { stated.IsBounded problem.now }
     requires active { IsActive problem.now active.now }
     requires root { root < length problem.now.desired }
-    requires lefts { IsChained (end_at problem.now.separations active.now false) (length active.now) (length problem.now.desired) lefts.now.lasts.items lefts.now.befores.items }
-    requires rights { IsChained (end_at problem.now.separations active.now true) (length active.now) (length problem.now.desired) rights.now.lasts.items rights.now.befores.items }
+    requires lefts { AreChains problem.now.separations active.now false (length problem.now.desired) lefts.now }
+    requires rights { AreChains problem.now.separations active.now true (length problem.now.desired) rights.now }
     requires settled { AreSettled problem.now active.now root places.old multipliers.old placed.old }
     ensures { IfOk result (λ _. AreSettled problem.now active.now (root + 1) places.new multipliers.new placed.new) }
 {

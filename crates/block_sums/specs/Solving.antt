@@ -4,6 +4,8 @@ use Rattle.units.specs.Problem.{Problem}
 use Rattle.solver_law.specs.State.{Givens, Point, IsState}
 use Rattle.solver_law.specs.Forest.{With, IsForest}
 use Rattle.block_sums.specs.declared.legs.Leg.{Leg}
+use Rattle.block_sums.specs.declared.sweeps.BlockSums.{BlockSums}
+use Rattle.block_sums.specs.declared.sweeps.Pushed.{Pushed}
 use Rattle.units.specs.Separation.{separation_at}
 use Rattle.block_sums.specs.Legs.{IsBlockTree, leg_at, variable_at}
 use Rattle.block_sums.specs.Loads.{load_at, IsGathered, weight_of, moment_of, mark_of}
@@ -60,6 +62,14 @@ pub record IsBounded (legs : List Leg) (weights moments : List ℤ) : Type 0 whe
 pub record AreSmall (legs : List Leg) (marks : List ℤ) : Type 0 where
   pub long : length marks ≡ length legs
   pub mark : (j : ℕ) → nat_abs (load_at marks j) ≤ 258
+
+-- the sums of a block are bounded
+abbrev pub HasBounds : BlockSums → Type 0
+HasBounds block = IsBounded block.legs.items block.weights.items block.moments.items
+
+-- so are the marks of a block on which a separation pushes
+abbrev pub HasSmallMarks : Pushed → Type 0
+HasSmallMarks pushed = AreSmall pushed.block.legs.items pushed.marks.items
 
 -- in every state the place of the variable, times twice the weight of its block, is `rest` and the share of the force
 abbrev pub HasPlace : Problem → List ℕ → ℕ → ℕ → ℤ → ℤ → ℤ → Type 0

@@ -1,7 +1,7 @@
 //! Where each variable stands among the ends of the active separations.
 ghost use Rattle.std.specs.Prelude.{◌≡◌, ◌<◌, ◌≤◌, length, IfOk};
 ghost use Rattle.std.specs.List.{All};
-ghost use Rattle.block_sums.specs.Ends.{end_of, end_at, IsChained};
+ghost use Rattle.block_sums.specs.Ends.{end_of, AreChains};
 
 use std::alloc::{AllocError, Global};
 use units::Sep;
@@ -34,7 +34,7 @@ pub fn chain(
     requires below { All (λ k. k < length seps.now) active.now }
     requires ends { All (λ sep. (sep.left < count) × (sep.right < count)) seps.now }
     requires short { count ≤ 258 }
-    ensures { IfOk result (λ chains. IsChained (end_at seps.now active.now right) (length active.now) count chains.lasts.items chains.befores.items) }
+    ensures { IfOk result (λ chains. AreChains seps.now active.now right count chains) }
 {
     let mut lasts: Vec<usize> = vec![in alloc; 0; count]?;
     let mut befores: Vec<usize> = Vec::with_capacity(alloc, active.len())?;

@@ -2,7 +2,7 @@
 ghost use Rattle.std.specs.Prelude.{◌≡◌, ◌<◌, ◌≤◌, ◌+◌, ◌*◌, ◌+ℤ◌, length, IfOk, true, false, not, nat_abs, slice_index_or};
 ghost use Rattle.std.specs.List.{All};
 ghost use Rattle.units.specs.Problem.{IsSeparation};
-ghost use Rattle.block_sums.specs.Ends.{end_of, end_at, IsChained};
+ghost use Rattle.block_sums.specs.Ends.{end_of, end_at, AreChains};
 ghost use Rattle.block_sums.specs.Legs.{leg_at, variable_at, stride, IsGrown, IsLonger, IsCleared, IsBlockTree};
 
 use crate::chains::{Chains, end_of};
@@ -98,7 +98,7 @@ fn visit(
     requires short { length reached.old ≤ 258 }
     requires at { at < length legs.old.items }
     requires within { variable_at legs.old.items at < length reached.old }
-    requires chained { IsChained (end_at seps.now active.now (not along)) (length active.now) (length reached.old) chains.now.lasts.items chains.now.befores.items }
+    requires chained { AreChains seps.now active.now (not along) (length reached.old) chains.now }
     requires grown { IsGrown seps.now active.now root legs.old.items reached.old }
     ensures grown { IfOk result (λ _. IsGrown seps.now active.now root legs.new.items reached.new) }
     ensures longer { IfOk result (λ _. IsLonger legs.old.items legs.new.items reached.old reached.new) }
@@ -126,8 +126,8 @@ fn spread(
     requires below { All (λ k. k < length seps.now) active.now }
     requires sound { All (λ sep. IsSeparation (length reached.old) sep) seps.now }
     requires short { length reached.old ≤ 258 }
-    requires lefts { IsChained (end_at seps.now active.now false) (length active.now) (length reached.old) lefts.now.lasts.items lefts.now.befores.items }
-    requires rights { IsChained (end_at seps.now active.now true) (length active.now) (length reached.old) rights.now.lasts.items rights.now.befores.items }
+    requires lefts { AreChains seps.now active.now false (length reached.old) lefts.now }
+    requires rights { AreChains seps.now active.now true (length reached.old) rights.now }
     requires grown { IsGrown seps.now active.now root legs.old.items reached.old }
     ensures tree { IfOk result (λ _. IsBlockTree seps.now active.now root legs.new.items) }
     ensures short { IfOk result (λ _. length legs.new.items ≤ length reached.old) }
@@ -157,8 +157,8 @@ pub fn reach(
     requires sound { All (λ sep. IsSeparation count sep) seps.now }
     requires short { count ≤ 258 }
     requires root { root < count }
-    requires lefts { IsChained (end_at seps.now active.now false) (length active.now) count lefts.now.lasts.items lefts.now.befores.items }
-    requires rights { IsChained (end_at seps.now active.now true) (length active.now) count rights.now.lasts.items rights.now.befores.items }
+    requires lefts { AreChains seps.now active.now false count lefts.now }
+    requires rights { AreChains seps.now active.now true count rights.now }
     ensures tree { IfOk result (λ legs. IsBlockTree seps.now active.now root legs.items) }
     ensures short { IfOk result (λ legs. length legs.items ≤ count) }
     ensures within { IfOk result (λ legs. All (λ leg. leg.variable < count) legs.items) }

@@ -4,7 +4,7 @@ ghost use Rattle.std.specs.List.{All};
 ghost use Rattle.units.specs.Separation.{separation_at};
 ghost use Rattle.block_sums.specs.Legs.{leg_at};
 ghost use Rattle.block_sums.specs.Loads.{load_at};
-ghost use Rattle.block_sums.specs.Solving.{IsBounded, AreSmall, signed, rest_at, share_at};
+ghost use Rattle.block_sums.specs.Solving.{HasBounds, HasSmallMarks, signed, rest_at, share_at};
 ghost use Rattle.block_sums.specs.Stops.{IsFalling, IsThreshold, IsSmall, IsNoLater, IsFirst, IsEarlier, IsClosingForce, IsLookedAt};
 
 use crate::legs::Leg;
@@ -83,7 +83,7 @@ fn signed_small(along: bool, number: i64) -> i64
 /// The multiplier of the separation of a leg without force, times the weight of its block.
 pub fn rest_at(block: &BlockSums, at: usize) -> i128
     requires at { at < length block.now.legs.items }
-    requires bounded { IsBounded block.now.legs.items block.now.weights.items block.now.moments.items }
+    requires bounded { HasBounds block.now }
     ensures value { result ≡ rest_at block.now.legs.items block.now.weights.items block.now.moments.items at }
     ensures small { nat_abs result < 2 ^ 66 }
 {
@@ -95,8 +95,8 @@ pub fn rest_at(block: &BlockSums, at: usize) -> i128
 /// What a unit of force adds to it.
 fn share_at(pushed: &Pushed, at: usize) -> i64
     requires at { at < length pushed.now.block.legs.items }
-    requires bounded { IsBounded pushed.now.block.legs.items pushed.now.block.weights.items pushed.now.block.moments.items }
-    requires small { AreSmall pushed.now.block.legs.items pushed.now.marks.items }
+    requires bounded { HasBounds pushed.now.block }
+    requires small { HasSmallMarks pushed.now }
     ensures value { result ≡ share_at pushed.now.block.legs.items pushed.now.block.weights.items pushed.now.marks.items at }
     ensures small { nat_abs result < 2 ^ 27 }
 {
@@ -110,8 +110,8 @@ fn threshold_at(seps: &[Sep], pushed: &Pushed, at: usize) -> Option<Threshold>
     requires above { 0 < at }
     requires at { at < length pushed.now.block.legs.items }
     requires among { (leg_at pushed.now.block.legs.items at).sep < length seps.now }
-    requires bounded { IsBounded pushed.now.block.legs.items pushed.now.block.weights.items pushed.now.block.moments.items }
-    requires small { AreSmall pushed.now.block.legs.items pushed.now.marks.items }
+    requires bounded { HasBounds pushed.now.block }
+    requires small { HasSmallMarks pushed.now }
     ensures { IsLookedAt seps.now pushed.now.block.legs.items pushed.now.block.weights.items pushed.now.block.moments.items pushed.now.marks.items at result }
 {
     let sep = pushed.block.legs[at].sep;
@@ -170,8 +170,8 @@ fn earlier(first: Option<Threshold>, second: Option<Threshold>) -> Option<Thresh
 pub fn first_fall(seps: &[Sep], pushed: &Pushed, before: Option<Threshold>) -> Option<Threshold>
     requires before { IfSome before IsSmall }
     requires among { (j : ℕ) → 0 < j → j < length pushed.now.block.legs.items → (leg_at pushed.now.block.legs.items j).sep < length seps.now }
-    requires bounded { IsBounded pushed.now.block.legs.items pushed.now.block.weights.items pushed.now.block.moments.items }
-    requires small { AreSmall pushed.now.block.legs.items pushed.now.marks.items }
+    requires bounded { HasBounds pushed.now.block }
+    requires small { HasSmallMarks pushed.now }
     ensures { IsFirst seps.now pushed.now.block.legs.items pushed.now.block.weights.items pushed.now.block.moments.items pushed.now.marks.items (length pushed.now.block.legs.items) before result }
 {
     let mut first = before;

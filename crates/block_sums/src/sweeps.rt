@@ -2,10 +2,10 @@
 ghost use Rattle.std.specs.Prelude.{◌≡◌, ◌≢◌, ◌<◌, ◌≤◌, ◌*◌, ◌^◌, ℕ, length, IfOk, true, false, nat_abs, pos, ◌<ℤ◌};
 ghost use Rattle.std.specs.List.{All};
 ghost use Rattle.units.specs.Separation.{separation_at};
-ghost use Rattle.block_sums.specs.Ends.{end_at, IsChained};
+ghost use Rattle.block_sums.specs.Ends.{AreChains};
 ghost use Rattle.block_sums.specs.Legs.{leg_at};
 ghost use Rattle.block_sums.specs.Loads.{load_at, sizes, sum_of, IsGathered};
-ghost use Rattle.block_sums.specs.Solving.{Active, IsActive, IsSweep, IsBounded, TellsRest, AreMarks, AreSmall, TellsStates};
+ghost use Rattle.block_sums.specs.Solving.{Active, IsActive, IsSweep, HasBounds, TellsRest, AreMarks, AreSmall, HasSmallMarks, TellsStates};
 
 use crate::chains::Chains;
 use crate::legs::Leg;
@@ -62,10 +62,10 @@ pub fn sweep(
 ) -> Result<BlockSums, AllocError>
     requires active { IsActive problem.now active.now }
     requires root { root < length problem.now.desired }
-    requires lefts { IsChained (end_at problem.now.separations active.now false) (length active.now) (length problem.now.desired) lefts.now.lasts.items lefts.now.befores.items }
-    requires rights { IsChained (end_at problem.now.separations active.now true) (length active.now) (length problem.now.desired) rights.now.lasts.items rights.now.befores.items }
+    requires lefts { AreChains problem.now.separations active.now false (length problem.now.desired) lefts.now }
+    requires rights { AreChains problem.now.separations active.now true (length problem.now.desired) rights.now }
     ensures sums { IfOk result (λ block. IsSweep problem.now active.now root block.legs.items block.weights.items block.moments.items) }
-    ensures bounded { IfOk result (λ block. IsBounded block.legs.items block.weights.items block.moments.items) }
+    ensures bounded { IfOk result (λ block. HasBounds block) }
     ensures heavy { IfOk result (λ block. pos 0 <ℤ load_at block.weights.items 0) }
     ensures within { IfOk result (λ block. All (λ leg. leg.variable < length problem.now.desired) block.legs.items) }
     ensures tells { IfOk result (λ block. TellsRest problem.now active.now block.legs.items block.weights.items block.moments.items) }
@@ -121,12 +121,12 @@ pub fn sweep_pushed(
     requires root { root < length problem.now.desired }
     requires closing { closing < length problem.now.separations }
     requires off { ¬ Active active.now closing }
-    requires lefts { IsChained (end_at problem.now.separations active.now false) (length active.now) (length problem.now.desired) lefts.now.lasts.items lefts.now.befores.items }
-    requires rights { IsChained (end_at problem.now.separations active.now true) (length active.now) (length problem.now.desired) rights.now.lasts.items rights.now.befores.items }
+    requires lefts { AreChains problem.now.separations active.now false (length problem.now.desired) lefts.now }
+    requires rights { AreChains problem.now.separations active.now true (length problem.now.desired) rights.now }
     ensures sums { IfOk result (λ s. IsSweep problem.now active.now root s.block.legs.items s.block.weights.items s.block.moments.items) }
     ensures marks { IfOk result (λ s. AreMarks problem.now closing s.block.legs.items s.marks.items) }
-    ensures bounded { IfOk result (λ s. IsBounded s.block.legs.items s.block.weights.items s.block.moments.items) }
-    ensures small { IfOk result (λ s. AreSmall s.block.legs.items s.marks.items) }
+    ensures bounded { IfOk result (λ s. HasBounds s.block) }
+    ensures small { IfOk result (λ s. HasSmallMarks s) }
     ensures heavy { IfOk result (λ s. pos 0 <ℤ load_at s.block.weights.items 0) }
     ensures within { IfOk result (λ s. All (λ leg. leg.variable < length problem.now.desired) s.block.legs.items) }
     ensures tells { IfOk result (λ s. TellsStates problem.now active.now closing s.block.legs.items s.block.weights.items s.block.moments.items s.marks.items) }

@@ -1,5 +1,5 @@
 -- A closing begins at rest.
-use Rattle.std.proofs.Common.{◌≡◌, ℕ, ◌*◌, ◌<◌, ℤ, pos, ◌-ℤ◌, ◌*ℤ◌, ◌<ℤ◌, List, length, refl, ◌⊎◌, inl, inr, Bool, true, false, MatchBool, Result, Ok, Err, IfOk, arith}
+use Rattle.std.proofs.Common.{◌≡◌, ℕ, ◌*◌, ◌<◌, ℤ, pos, ◌-ℤ◌, ◌*ℤ◌, ◌<ℤ◌, List, length, ◌⊎◌, inl, inr, Bool, true, false, MatchBool, Result, Ok, Err, IfOk, arith}
 use Rattle.std.proofs.lemmas.Int.{ints}
 use Rattle.units.specs.Problem.{Problem}
 use Rattle.solver_law.specs.State.{Point}

@@ -1,14 +1,12 @@
 -- The first threshold that the program finds is the first of all multipliers.
-use Rattle.std.proofs.Common.{◌≡◌, ◌≢◌, ℕ, zero, suc, ◌+◌, ◌-◌, ◌*◌, ◌<◌, ◌≤◌, ℤ, pos, negsuc, neg_ℤ, ◌+ℤ◌, ◌-ℤ◌, ◌*ℤ◌, ◌<ℤ◌, ◌≤ℤ◌, nat_abs, List, length, arith, refl, sym, ap, ◌∙◌, Bool, true, false, eqb, eqb-true, subst, ◌⊎◌, inl, inr, rules, IsTrue}
+use Rattle.std.proofs.Common.{◌≡◌, ◌≢◌, ℕ, suc, ◌-◌, ◌<◌, ℤ, pos, negsuc, neg_ℤ, ◌+ℤ◌, ◌*ℤ◌, ◌<ℤ◌, ◌≤ℤ◌, nat_abs, List, length, arith, refl, sym, ap, ◌∙◌, Bool, true, false, eqb, eqb-true, subst, ◌⊎◌, inl, inr}
 use Rattle.std.proofs.lemmas.Bool.{eqb-false}
 use Rattle.std.proofs.lemmas.Int.{ints}
 use lib.IntN.{*ℤ-zero, *ℤ_comm}
 use Rattle.units.specs.Problem.{Problem}
-use Rattle.solver_law.specs.State.{Givens, Point, IsState}
-use Rattle.solver_law.specs.Forest.{With}
+use Rattle.solver_law.specs.State.{Point}
 use Rattle.solver_law.proofs.Signs.{not-below-of, times-not-below}
 use Rattle.block_sums.specs.declared.legs.Leg.{Leg}
-use Rattle.units.specs.Separation.{separation_at}
 use Rattle.block_sums.specs.Legs.{leg_at}
 use Rattle.block_sums.specs.Loads.{load_at}
 use Rattle.block_sums.specs.Solving.{givens_of, Active, TellsStates, HasMultiplier, rest_at, share_at}

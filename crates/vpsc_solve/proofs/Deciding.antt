@@ -1,36 +1,35 @@
 -- What the program's choice means for every state.
-use Rattle.std.proofs.Common.{◌≡◌, ◌≢◌, ℕ, zero, suc, ◌+◌, ◌-◌, ◌*◌, ◌<◌, ◌≤◌, ℤ, pos, negsuc, neg_ℤ, ◌+ℤ◌, ◌-ℤ◌, ◌*ℤ◌, ◌<ℤ◌, ◌≤ℤ◌, nat_abs, List, length, arith, refl, sym, ap, ◌∙◌, Bool, true, false, subst, ◌⊎◌, inl, inr, rules, Option, None, Some}
+use Rattle.std.proofs.Common.{◌≡◌, ◌≢◌, ℕ, ◌<◌, ◌≤◌, ℤ, pos, neg_ℤ, ◌+ℤ◌, ◌-ℤ◌, ◌*ℤ◌, ◌<ℤ◌, ◌≤ℤ◌, nat_abs, List, length, arith, refl, sym, ap, ◌∙◌, false, subst, ◌⊎◌, inl, inr, rules, Option, None, Some}
 use Rattle.std.specs.List.{All}
 use Rattle.std.proofs.lemmas.Int.{ints}
-use lib.IntN.{*ℤ-zero, *ℤ_comm}
+use lib.IntN.{*ℤ-zero}
 use Rattle.units.specs.declared.geometry.Sep.{Sep}
 use Rattle.units.specs.Problem.{Problem, IsSeparation}
 use Rattle.units.specs.Problem as stated
 use Rattle.units.specs.Separation.{place_of}
 use Rattle.solver_law.specs.Closing.{Holds}
-use Rattle.solver_law.specs.State.{Givens, Point, IsState}
-use Rattle.solver_law.specs.Forest.{Joins, With, Without}
+use Rattle.solver_law.specs.State.{Point, IsState}
+use Rattle.solver_law.specs.Forest.{With}
 use Rattle.solver_law.proofs.Ring.{dif_of, dif_pos, difs, dif_same}
 use Rattle.solver_law.proofs.Cut.{EndsBelow}
 use Rattle.solver_law.proofs.Progress.{lack}
 use Rattle.solver_law.proofs.Stops.{Weighs}
-use Rattle.solver_law.proofs.Forest.{joins-more}
 use Rattle.block_sums.specs.declared.legs.Leg.{Leg}
 use Rattle.block_sums.specs.declared.stops.Threshold.{Threshold}
 use Rattle.units.specs.Separation.{no_separation, separation_at}
-use Rattle.block_sums.specs.Legs.{no_leg, leg_at, variable_at, IsReached, IsBlockTree}
+use Rattle.block_sums.specs.Legs.{leg_at, IsReached}
 use Rattle.block_sums.specs.Loads.{load_at}
 use Rattle.block_sums.specs.Solving.{givens_of, Active, IsActive, IsSweep, AreMarks, TellsStates, rest_at, share_at}
-use Rattle.block_sums.specs.Stops.{IsFalling, IsThreshold, IsSmall, IsNoLater, IsOfLeg, IsSoonest, IsFirst, IsClosingForce}
+use Rattle.block_sums.specs.Stops.{IsFalling, IsSmall, IsNoLater, IsOfLeg, IsFirst, IsClosingForce}
 use Rattle.block_sums.proofs.Telling.{left-mark, right-mark}
 use Rattle.block_sums.proofs.Soonest.{cross-trans}
 use Rattle.block_sums.proofs.Rooted.{IsVia}
-use Rattle.vpsc_solve.specs.Stops.{NextClosing, NextRest, IsUnderWay, IsFeasible, IsStop, IsStopBetween, stop_within}
+use Rattle.vpsc_solve.specs.Stops.{IsUnderWay, IsFeasible, IsStop, IsStopBetween, stop_within}
 use Rattle.block_sums.specs.Rest.{exact_of}
 use Rattle.std.specs.Prelude.{slice_index}
 use Rattle.vpsc_solve.specs.declared.stops.Stop.{Stop}
 use Rattle.vpsc_solve.specs.declared.stops.Stop.TheVariants.{Closes, Falls}
-use Rattle.vpsc_solve.proofs.Stopping.{Law, GapLaw, IsDirection, IsLater, AreLater, fall-step, close-step}
+use Rattle.vpsc_solve.proofs.Stopping.{Law, GapLaw, IsLater, AreLater, fall-step, close-step}
 use Rattle.solver_law.proofs.Signs.{times-above}
 use Rattle.vpsc_solve.proofs.Directions.{GoesOn, IsViaOf, turning-goes, parting-goes, reached-on, disjoint}
 use Rattle.vpsc_solve.proofs.Choosing.{law-of, all-later, via-or-not, via-later, none-falls}

@@ -1,14 +1,13 @@
 -- The directions in which the force on a separation grows.
-use Rattle.std.proofs.Common.{◌≡◌, ◌≢◌, ℕ, zero, suc, ◌+◌, ◌-◌, ◌*◌, ◌<◌, ◌≤◌, ℤ, pos, negsuc, neg_ℤ, ◌+ℤ◌, ◌-ℤ◌, ◌*ℤ◌, ◌<ℤ◌, ◌≤ℤ◌, List, [], ◌∷◌, length, map, arith, refl, sym, ap, ◌∙◌, Bool, true, false, not, eqb, eqb-true, subst, ◌⊎◌, inl, inr, rules, if◌then◌else◌}
+use Rattle.std.proofs.Common.{◌≡◌, ◌≢◌, ℕ, zero, suc, ◌-◌, ◌<◌, ◌≤◌, ℤ, pos, negsuc, neg_ℤ, ◌+ℤ◌, ◌-ℤ◌, ◌*ℤ◌, ◌<ℤ◌, ◌≤ℤ◌, List, [], ◌∷◌, length, map, arith, refl, sym, ap, ◌∙◌, Bool, true, false, not, subst, ◌⊎◌, inl, inr, if◌then◌else◌}
 use Rattle.std.specs.List.{All, AllByRecursion}
-use Rattle.std.proofs.lemmas.Bool.{eqb-false}
 use Rattle.std.proofs.lemmas.Int.{ints}
 use lib.IntN.{*ℤ-zero, *ℤ_comm}
 use Rattle.units.specs.Problem.{Problem}
 use Rattle.units.specs.Problem as stated
 use Rattle.solver_law.specs.Step.{Step}
 use Rattle.solver_law.specs.State.{put_at, Givens, Point, IsState}
-use Rattle.solver_law.specs.Forest.{Joins, With, start, finish, Leads}
+use Rattle.solver_law.specs.Forest.{Joins, With, finish, Leads}
 use Rattle.solver_law.proofs.Sums.{put_at-same, put_at-other}
 use Rattle.solver_law.proofs.Flow.{flow, flow-within}
 use Rattle.solver_law.proofs.Progress.{lack}
@@ -21,7 +20,7 @@ use Rattle.block_sums.specs.Ends.{end_of}
 use Rattle.std.specs.Prelude.{slice_index}
 use Rattle.std.proofs.lemmas.List.{get_or_default}
 use Rattle.solver_law.proofs.Forest.{joins-back, joins-more}
-use Rattle.block_sums.specs.Legs.{no_leg, leg_at, variable_at, IsTree, IsReached, IsBlockTree}
+use Rattle.block_sums.specs.Legs.{no_leg, leg_at, variable_at, IsReached, IsBlockTree}
 use Rattle.block_sums.specs.Solving.{givens_of, Active, IsActive}
 use Rattle.block_sums.proofs.Rooted.{IsVia, find-via, joined-root, only-vias, via-active}
 use Rattle.vpsc_solve.proofs.Stopping.{IsDirection}

@@ -1,11 +1,10 @@
 -- Within one block some multiplier falls: else no placement would satisfy the separations.
-use Rattle.std.proofs.Common.{MatchBool, ◌≡◌, ◌≢◌, ℕ, zero, suc, ◌+◌, ◌*◌, ◌<◌, ◌≤◌, ℤ, pos, negsuc, neg_ℤ, ◌+ℤ◌, ◌-ℤ◌, ◌*ℤ◌, ◌<ℤ◌, ◌≤ℤ◌, nat_abs, arith, refl, sym, ap, ◌∙◌, Bool, true, false, eqb, eqb-true, subst, ◌⊎◌, inl, inr, rules}
-use Rattle.std.proofs.lemmas.Bool.{eqb-false}
+use Rattle.std.proofs.Common.{MatchBool, ◌≡◌, ℕ, ◌<◌, ℤ, pos, ◌-ℤ◌, ◌*ℤ◌, ◌<ℤ◌, ◌≤ℤ◌, arith, refl, sym, ap, ◌∙◌, Bool, true, false, subst, ◌⊎◌, inl, inr}
 use Rattle.std.proofs.lemmas.Int.{ints}
 use lib.IntN.{*ℤ-zero, *ℤ_comm}
 use Rattle.solver_law.specs.State.{sum_to, net, Givens, Point, IsState}
 use Rattle.solver_law.specs.Forest.{With}
-use Rattle.solver_law.proofs.Ring.{dif_of, dif_pos, difs, dif_same}
+use Rattle.solver_law.proofs.Ring.{dif_of, difs, dif_same}
 use Rattle.solver_law.proofs.Signs.{times-above, times-not-below}
 use Rattle.solver_law.proofs.Sums.{sum-zero}
 use Rattle.solver_law.proofs.Net.{exchange}

@@ -1,15 +1,12 @@
 -- The active list as it loses a separation or gets one.
-use Rattle.std.proofs.Common.{◌≡◌, ◌≢◌, ℕ, zero, suc, ◌+◌, ◌*◌, ◌<◌, ◌≤◌, ℤ, pos, List, [], ◌∷◌, ◌++◌, length, get_or, filter, arith, refl, sym, ap, ◌∙◌, Bool, true, false, not, eqb, eqb-true, subst, ◌⊎◌, inl, inr, rules, ◌↔◌, if◌then◌else◌}
-use Rattle.std.specs.List.{All, Contains}
+use Rattle.std.proofs.Common.{◌≡◌, ◌≢◌, ℕ, zero, suc, ◌<◌, ◌≤◌, ℤ, pos, List, [], ◌∷◌, ◌++◌, length, get_or, filter, arith, refl, sym, ◌∙◌, Bool, true, false, not, eqb, eqb-true, subst, ◌⊎◌, inl, inr, if◌then◌else◌}
+use Rattle.std.specs.List.{Contains}
 use Rattle.std.proofs.lemmas.Bool.{eqb-false}
 use Rattle.units.specs.Problem.{Problem}
-use Rattle.solver_law.specs.State.{Givens, Point, IsState}
-use Rattle.solver_law.specs.Forest.{Joins, With, Without, IsForest}
+use Rattle.solver_law.specs.Forest.{Joins, With, Without}
 use Rattle.solver_law.proofs.Forest.{joins-more, forest-with}
-use Rattle.solver_law.proofs.Closing.{InClosing, AtRest, Closed}
-use Rattle.units.specs.Separation.{separation_at}
 use Rattle.block_sums.specs.Solving.{givens_of, Active, IsActive}
-use Rattle.vpsc_solve.specs.Stops.{NextClosing, NextRest, IsUnderWay, HasClosed, IsStop}
+use Rattle.vpsc_solve.specs.Stops.{NextRest, IsUnderWay, HasClosed}
 use Rattle.block_sums.specs.Rest.{exact_of}
 
 -- ---- lists

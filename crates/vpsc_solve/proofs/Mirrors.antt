@@ -1,21 +1,18 @@
 -- The problem with an exact separation turned round: the same placements, the same forests, and each state as its mirror image.
-use Rattle.std.proofs.Common.{◌≡◌, ◌≢◌, ℕ, ◌*◌, ◌<◌, ◌≤◌, ℤ, pos, neg_ℤ, ◌+ℤ◌, ◌-ℤ◌, ◌*ℤ◌, ◌<ℤ◌, ◌≤ℤ◌, nat_abs, List, [], ◌∷◌, length, get_or, set, length-set, arith, refl, sym, ap, ◌∙◌, Bool, true, false, eqb, eqb-true, subst, ◌⊎◌, inl, inr, MatchBool, if◌then◌else◌}
-use Rattle.std.specs.List.{All, Contains}
+use Rattle.std.proofs.Common.{◌≡◌, ℕ, ◌*◌, ◌<◌, ℤ, pos, neg_ℤ, ◌-ℤ◌, ◌*ℤ◌, ◌<ℤ◌, ◌≤ℤ◌, List, length, get_or, length-set, arith, refl, sym, ap, ◌∙◌, Bool, true, false, eqb, eqb-true, subst, ◌⊎◌, inl, inr, MatchBool, if◌then◌else◌}
+use Rattle.std.specs.List.{Contains}
 use Rattle.std.proofs.lemmas.Bool.{eqb-false}
 use Rattle.std.proofs.lemmas.Int.{ints}
 use Rattle.std.proofs.lemmas.List.{get_or-set_same, get_or-set_other, get_or_default}
 use Rattle.units.specs.declared.geometry.Sep.{Sep}
-use Rattle.units.specs.Problem.{Problem, IsSeparation}
-use Rattle.units.specs.Problem as stated
-use Rattle.units.specs.Separation.{place_of, Satisfies, SatisfiesAll}
-use Rattle.solver_law.specs.State.{Givens, Point}
-use Rattle.solver_law.specs.Closing.{AtRest}
-use Rattle.solver_law.specs.Cost.{cost, lack}
-use Rattle.solver_law.proofs.Ring.{dif_of, dif_pos, difs, dif_same}
+use Rattle.units.specs.Problem.{Problem}
+use Rattle.units.specs.Separation.{place_of, Satisfies}
+use Rattle.solver_law.specs.Cost.{lack}
+use Rattle.solver_law.proofs.Ring.{dif_of, difs, dif_same}
 use Rattle.solver_law.proofs.Mirror.{IsMirror, turned, mirror-back, mirror-rest, mirror-cost, mirror-lack, mirror-forest}
 use Rattle.units.specs.Separation.{no_separation, separation_at}
 use Rattle.block_sums.specs.Solving.{givens_of, Active, IsActive}
-use Rattle.block_sums.specs.Rest.{exact_of, IsRest}
+use Rattle.block_sums.specs.Rest.{exact_of}
 use Rattle.vpsc_solve.specs.Stops.{IsFeasible, IsUnderWay, HasClosed, IsViolation, AreTouched, DiffersAt}
 use Rattle.vpsc_solve.specs.Mirror.{turned_separation, turned_problem}
 use Rattle.vpsc_solve.proofs.Beginning.{begins}

@@ -1,6 +1,6 @@
 -- After a closing: what is joined to no touched variable has the block and the place of before.
-use Rattle.std.proofs.Common.{◌≡◌, ◌≢◌, ℕ, zero, suc, ◌+◌, ◌<◌, ◌≤◌, List, [], ◌∷◌, length, get_or, arith, refl, sym, ap, ◌∙◌, Bool, true, false, not, eqb, eqb-true, subst, ◌⊎◌, inl, inr, if◌then◌else◌}
-use Rattle.std.specs.List.{All, Contains, AllByRecursion}
+use Rattle.std.proofs.Common.{◌≡◌, ◌≢◌, ℕ, zero, suc, ◌<◌, ◌≤◌, List, [], ◌∷◌, length, get_or, arith, refl, sym, ap, ◌∙◌, Bool, true, false, not, eqb, eqb-true, subst, ◌⊎◌, inl, inr, if◌then◌else◌}
+use Rattle.std.specs.List.{Contains, AllByRecursion}
 use Rattle.std.proofs.lemmas.Bool.{eqb-false}
 use Rattle.std.proofs.lemmas.List.{get_or_default}
 use Rattle.units.specs.Problem.{Problem}
@@ -9,9 +9,9 @@ use Rattle.solver_law.specs.Forest.{Joins, Leads, start, finish}
 use Rattle.solver_law.proofs.Forest.{joins-self, joins-step, joins-then, joins-back, joins-more}
 use Rattle.block_sums.specs.declared.legs.Leg.{Leg}
 use Rattle.units.specs.Separation.{separation_at}
-use Rattle.block_sums.specs.Ends.{active_at, end_of, end_at}
-use Rattle.block_sums.specs.Legs.{leg_at, variable_at, IsLeg, IsTree, IsReached, IsBlockTree}
-use Rattle.block_sums.specs.Solving.{givens_of, Active, IsSweep}
+use Rattle.block_sums.specs.Ends.{end_of, end_at}
+use Rattle.block_sums.specs.Legs.{leg_at, variable_at, IsLeg, IsReached, IsBlockTree}
+use Rattle.block_sums.specs.Solving.{givens_of, Active}
 use Rattle.block_sums.proofs.Rooted.{IsVia, joined-root, via-active}
 use Rattle.vpsc_solve.specs.declared.places.Place.{Place}
 use Rattle.vpsc_solve.specs.Places.{place_at, IsPlaced, ArePlaced, IsJoinedTo}

@@ -1,5 +1,5 @@
 -- The variables of blocks get their places.
-use Rattle.std.proofs.Common.{◌≡◌, ◌≢◌, ℕ, zero, suc, ◌+◌, ◌*◌, ◌<◌, ◌≤◌, ◌^◌, ℤ, pos, ◌+ℤ◌, ◌*ℤ◌, ◌<ℤ◌, nat_abs, List, [], ◌∷◌, length, get_or, set, arith, refl, sym, ap, ◌∙◌, Bool, true, false, eqb, eqb-true, subst, ◌⊎◌, inl, inr, FitsSigned, to_z, of_z}
+use Rattle.std.proofs.Common.{◌≡◌, ◌≢◌, ℕ, ◌+◌, ◌<◌, ◌≤◌, ◌^◌, ℤ, pos, ◌+ℤ◌, ◌<ℤ◌, nat_abs, List, length, get_or, set, arith, refl, sym, ap, ◌∙◌, Bool, true, false, eqb, eqb-true, subst, ◌⊎◌, inl, inr, to_z, of_z}
 use Rattle.std.specs.List.{All, Contains}
 use Rattle.std.specs.Int.{w64}
 use Rattle.std.proofs.lemmas.Bool.{eqb-false}
@@ -8,7 +8,7 @@ use Rattle.std.proofs.lemmas.List.{get_or-set_same, get_or-set_other, get_or_def
 use Rattle.units.specs.Problem.{Problem}
 use Rattle.solver_law.specs.Forest.{Joins}
 use Rattle.block_sums.specs.declared.legs.Leg.{Leg}
-use Rattle.block_sums.specs.Legs.{no_leg, leg_at, variable_at, IsTree, IsReached, IsBlockTree}
+use Rattle.block_sums.specs.Legs.{no_leg, variable_at, IsTree, IsReached}
 use Rattle.block_sums.specs.Loads.{load_at}
 use Rattle.block_sums.specs.Solving.{givens_of, Active, IsActive, IsSweep, IsBounded}
 use Rattle.block_sums.proofs.Growing.{all-legs}

@@ -1,22 +1,21 @@
 -- The loop over closings ends: over one common denominator the cost of the places is a whole number, and it rises.
-use Rattle.std.proofs.Common.{◌≡◌, ℕ, zero, suc, ◌+◌, ◌-◌, ◌*◌, ◌/◌, ◌<◌, ◌≤◌, ℤ, pos, negsuc, ◌+ℤ◌, ◌-ℤ◌, ◌*ℤ◌, ◌<ℤ◌, ◌≤ℤ◌, nat_abs, List, length, slice_index_or, get_or, arith, refl, sym, ap, ◌∙◌, subst}
-use Rattle.std.specs.List.{All}
+use Rattle.std.proofs.Common.{◌≡◌, ℕ, zero, suc, ◌-◌, ◌*◌, ◌/◌, ◌<◌, ◌≤◌, ℤ, pos, negsuc, ◌-ℤ◌, ◌*ℤ◌, ◌<ℤ◌, ◌≤ℤ◌, nat_abs, List, length, slice_index_or, arith, sym, ap, ◌∙◌}
 use Rattle.std.proofs.lemmas.Int.{ints}
-use Rattle.std.proofs.Math.Nat.{mul-div_cancel_left, mul-le-mul}
+use Rattle.std.proofs.Math.Nat.{mul-div_cancel_left}
 use Rattle.std.specs.Prelude.{slice_index}
 use Rattle.units.specs.Problem.{Problem}
 use Rattle.units.specs.Problem as stated
 use Rattle.solver_law.specs.State.{sum_to, Point}
 use Rattle.solver_law.specs.Cost.{cost}
-use Rattle.solver_law.proofs.Ring.{dif_of, dif_pos, difs, dif_same}
+use Rattle.solver_law.proofs.Ring.{dif_of, difs, dif_same}
 use Rattle.solver_law.proofs.Sums.{sum-same, sum-scale}
 use Rattle.solver_law.proofs.Factorial.{factorial, factorial-above, Divides, divides-factorial}
 use Rattle.solver_law.proofs.Measure.{rises, falls, cost-below}
-use Rattle.block_sums.specs.Solving.{givens_of, Active, IsActive, IsResting}
-use Rattle.block_sums.specs.Rest.{IsRest, HasRest}
-use Rattle.block_sums.proofs.Products.{abs-product, abs-mul}
+use Rattle.block_sums.specs.Solving.{givens_of, IsActive}
+use Rattle.block_sums.specs.Rest.{IsRest}
+use Rattle.block_sums.proofs.Products.{abs-product}
 use Rattle.vpsc_solve.specs.declared.places.Place.{Place}
-use Rattle.vpsc_solve.specs.Places.{place_at, IsSmallPlace, IsPlaced, ArePlaced}
+use Rattle.vpsc_solve.specs.Places.{place_at, IsSmallPlace, ArePlaced}
 use Rattle.vpsc_solve.specs.Stops.{HasClosed}
 use Rattle.vpsc_solve.proofs.Standing.{place-law, small-place}
 

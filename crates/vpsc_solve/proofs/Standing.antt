@@ -1,26 +1,24 @@
 -- What the places of the variables say of a state at rest.
-use Rattle.std.proofs.Common.{◌≡◌, ℕ, zero, suc, ◌+◌, ◌*◌, ◌<◌, ◌≤◌, ℤ, pos, neg_ℤ, ◌+ℤ◌, ◌-ℤ◌, ◌*ℤ◌, ◌<ℤ◌, ◌≤ℤ◌, nat_abs, List, length, get_or, arith, refl, sym, ap, ◌∙◌, Bool, true, false, Option, None, Some, MatchBool, subst}
+use Rattle.std.proofs.Common.{◌≡◌, ℕ, ◌*◌, ◌<◌, ◌≤◌, ℤ, pos, neg_ℤ, ◌+ℤ◌, ◌-ℤ◌, ◌*ℤ◌, ◌<ℤ◌, ◌≤ℤ◌, nat_abs, List, length, arith, sym, ap, ◌∙◌, Bool, true, false, None, Some, MatchBool, subst}
 use Rattle.std.specs.List.{All}
 use Rattle.std.proofs.lemmas.Int.{ints}
 use Rattle.std.proofs.lemmas.List.{get_or_default}
-use lib.IntN.{*ℤ_comm}
-use Rattle.units.specs.declared.geometry.Sep.{Sep}
 use Rattle.units.specs.Problem.{Problem, IsSeparation}
 use Rattle.units.specs.Problem as stated
 use Rattle.solver_law.specs.State.{Point}
 use Rattle.solver_law.specs.Cost.{cost, lack}
-use Rattle.solver_law.proofs.Ring.{dif_of, dif_pos, difs, dif_same}
+use Rattle.solver_law.proofs.Ring.{dif_of, difs, dif_same}
 use Rattle.solver_law.proofs.Signs.{not-below-of, above-of, times-above, times-not-below}
 use Rattle.units.specs.Separation.{no_separation, separation_at}
-use Rattle.block_sums.specs.Legs.{leg_at, variable_at}
+use Rattle.block_sums.specs.Legs.{leg_at}
 use Rattle.block_sums.specs.Loads.{load_at}
-use Rattle.block_sums.specs.Solving.{givens_of, Active, IsActive, IsResting}
-use Rattle.block_sums.specs.Rest.{exact_of, IsRest, HasRest, IsKept, IsSolved}
+use Rattle.block_sums.specs.Solving.{givens_of, IsActive, IsResting}
+use Rattle.block_sums.specs.Rest.{exact_of, IsRest, HasRest, IsSolved}
 use Rattle.block_sums.proofs.Products.{abs-product}
 use Rattle.block_sums.proofs.Telling.{telling-rest}
 use Rattle.vpsc_solve.specs.declared.places.Place.{Place}
 use Rattle.vpsc_solve.specs.declared.violations.Violation.{Violation}
-use Rattle.vpsc_solve.specs.Places.{no_place, place_at, IsSmallPlace, IsPlaced, ArePlaced, wanted, actual, IsBroken, IsBrokenAt, IsFirstBroken}
+use Rattle.vpsc_solve.specs.Places.{no_place, place_at, IsSmallPlace, IsPlaced, ArePlaced, wanted, actual, IsBrokenAt}
 use Rattle.vpsc_solve.specs.Stops.{IsViolation}
 
 ap2 : {A B C : Type 0} (f : A → B → C) {a a' : A} {b b' : B} → a ≡ a' → b ≡ b' → f a b ≡ f a' b'

@@ -1,16 +1,14 @@
 -- The start: the empty list, and the desired places.
-use Rattle.std.proofs.Common.{◌≡◌, ℕ, ◌+◌, ◌*◌, ◌<◌, ◌≤◌, ℤ, pos, ◌+ℤ◌, ◌-ℤ◌, ◌*ℤ◌, ◌≤ℤ◌, List, [], length, get_or, arith, refl, sym, ap, ◌∙◌, subst, ◌⊎◌, inl, inr}
-use Rattle.std.specs.List.{All, Contains}
+use Rattle.std.proofs.Common.{◌≡◌, ℕ, ◌<◌, ℤ, pos, ◌-ℤ◌, ◌*ℤ◌, List, [], length, get_or, arith, refl, sym, ap, ◌∙◌, subst, inl}
 use Rattle.std.proofs.lemmas.Int.{ints}
 use Rattle.std.proofs.lemmas.List.{get_or_default}
 use lib.IntN.{*ℤ-zero}
 use Rattle.units.specs.Problem.{Problem}
-use Rattle.solver_law.specs.State.{net}
 use Rattle.solver_law.proofs.Ring.{dif_of, dif_pos, difs, dif_same}
 use Rattle.solver_law.proofs.Flow.{net-zero}
 use Rattle.solver_law.proofs.Forest.{joins-self}
 use Rattle.block_sums.specs.Solving.{givens_of, Active, IsActive}
-use Rattle.block_sums.specs.Rest.{exact_of, HasRest}
+use Rattle.block_sums.specs.Rest.{HasRest}
 use Rattle.vpsc_solve.specs.Places.{IsJoinedTo}
 
 none-active : (active : List ℕ) (k : ℕ) → active ≡ [] → Active active k → ⊥

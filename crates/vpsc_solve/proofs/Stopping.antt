@@ -1,18 +1,17 @@
 -- From one stop of a closing to the next, by what the sums of the blocks say of every state.
-use Rattle.std.proofs.Common.{◌≡◌, ◌≢◌, ℕ, zero, suc, ◌+◌, ◌*◌, ◌<◌, ◌≤◌, ℤ, pos, negsuc, neg_ℤ, ◌+ℤ◌, ◌-ℤ◌, ◌*ℤ◌, ◌<ℤ◌, ◌≤ℤ◌, nat_abs, arith, refl, sym, ap, ◌∙◌, Bool, true, false, eqb, eqb-true, subst, ◌⊎◌, inl, inr}
-use Rattle.std.proofs.lemmas.Bool.{eqb-false}
+use Rattle.std.proofs.Common.{◌≡◌, ◌≢◌, ℕ, ◌*◌, ◌<◌, ℤ, pos, negsuc, neg_ℤ, ◌+ℤ◌, ◌-ℤ◌, ◌*ℤ◌, ◌<ℤ◌, ◌≤ℤ◌, nat_abs, arith, sym, ap, ◌∙◌, Bool, false, subst, ◌⊎◌, inl, inr}
 use Rattle.std.proofs.lemmas.Int.{ints}
 use lib.IntN.{*ℤ-zero, *ℤ_comm}
 use Rattle.solver_law.specs.State.{Givens, Point, IsState, mix}
 use Rattle.solver_law.specs.Forest.{With, Without}
-use Rattle.solver_law.proofs.Ring.{dif_of, dif_pos, difs, dif_same}
+use Rattle.solver_law.proofs.Ring.{dif_of, difs, dif_same}
 use Rattle.solver_law.proofs.Signs.{not-below-of, above-of, below-of, times-above, times-not-below, times-below}
 use Rattle.solver_law.proofs.State.{mix-state}
 use Rattle.solver_law.proofs.Cut.{EndsBelow}
 use Rattle.solver_law.proofs.Progress.{lack}
 use Rattle.solver_law.proofs.Stops.{Weighs}
 pub use Rattle.vpsc_solve.specs.Stops.{NextClosing, NextRest}
-use Rattle.solver_law.proofs.Closing.{SignsAreRight, InClosing, Closed, slide, drop, close}
+use Rattle.solver_law.proofs.Closing.{SignsAreRight, InClosing, slide, drop, close}
 
 -- ---- what the sums say
 

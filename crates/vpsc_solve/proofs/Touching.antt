@@ -1,10 +1,9 @@
 -- The variables that a closing touches.
-use Rattle.std.proofs.Common.{◌≡◌, ◌≢◌, ℕ, zero, suc, ◌+◌, ◌<◌, ◌≤◌, ℤ, pos, List, [], ◌∷◌, ◌++◌, length, get_or, filter, arith, refl, sym, ap, ◌∙◌, Bool, true, false, not, eqb, eqb-true, subst, ◌⊎◌, inl, inr}
+use Rattle.std.proofs.Common.{◌≡◌, ℕ, zero, suc, ◌<◌, List, [], ◌∷◌, ◌++◌, length, filter, arith, refl, sym, Bool, true, false, not, eqb, eqb-true, subst, ◌⊎◌, inl, inr}
 use Rattle.std.specs.List.{All, Contains}
 use Rattle.std.proofs.lemmas.Bool.{eqb-false}
 use Rattle.units.specs.Problem.{Problem, IsSeparation}
-use Rattle.units.specs.Problem as stated
-use Rattle.units.specs.Separation.{no_separation, separation_at}
+use Rattle.units.specs.Separation.{separation_at}
 use Rattle.block_sums.specs.Solving.{Active}
 use Rattle.vpsc_solve.specs.Stops.{AreTouched, DiffersAt}
 use Rattle.vpsc_solve.proofs.Lists.{here, later, here-or-later, left-over, keeps-over, pushed-has, has-pushed}

@@ -1,5 +1,5 @@
 -- The places of the variables at rest, and what the separations say to them.
-use Rattle.std.specs.Prelude.{◌≡◌, ◌≢◌, ℕ, ◌<◌, ◌≤◌, ℤ, pos, ◌+ℤ◌, ◌-ℤ◌, ◌*ℤ◌, ◌<ℤ◌, ◌≤ℤ◌, nat_abs, Bool, true, false, List, length, slice_index_or, Option, None, Some, ◌⊎◌, MatchBool, All, Contains}
+use Rattle.std.specs.Prelude.{◌≡◌, ◌≢◌, ℕ, ◌<◌, ◌≤◌, ℤ, pos, ◌+ℤ◌, ◌*ℤ◌, ◌<ℤ◌, ◌≤ℤ◌, nat_abs, Bool, true, false, List, length, slice_index_or, Option, None, Some, ◌⊎◌, MatchBool, All, Contains}
 use Rattle.units.specs.declared.geometry.Sep.{Sep}
 use Rattle.units.specs.Problem.{Problem}
 use Rattle.solver_law.specs.Forest.{Joins}
@@ -8,7 +8,6 @@ use Rattle.units.specs.Separation.{separation_at}
 use Rattle.block_sums.specs.Legs.{leg_at, variable_at}
 use Rattle.block_sums.specs.Loads.{load_at}
 use Rattle.block_sums.specs.Solving.{givens_of, Active, IsSweep, IsBounded}
-use Rattle.block_sums.specs.Rest.{exact_of}
 use Rattle.vpsc_solve.specs.declared.places.Place.{Place}
 use Rattle.vpsc_solve.specs.declared.violations.Violation.{Violation}
 

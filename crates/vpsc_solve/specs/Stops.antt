@@ -1,9 +1,9 @@
 -- What a stop of a closing leaves.
-use Rattle.std.specs.Prelude.{◌≡◌, ◌≢◌, ℕ, ◌*◌, ◌<◌, ℤ, pos, Bool, true, false, List, length, Option, None, Some, ◌⊎◌, ◌*ℤ◌, ◌<ℤ◌, ◌≤ℤ◌, All, Contains, MatchBool}
+use Rattle.std.specs.Prelude.{◌≡◌, ℕ, ◌*◌, ◌<◌, ℤ, pos, Bool, true, false, List, length, Option, None, Some, ◌⊎◌, ◌*ℤ◌, ◌<ℤ◌, ◌≤ℤ◌, All, Contains, MatchBool}
 use Rattle.units.specs.Problem.{Problem}
 use Rattle.units.specs.Separation.{SatisfiesAll}
-use Rattle.solver_law.specs.State.{Givens, Point, IsState}
-use Rattle.solver_law.specs.Forest.{Joins, With, Without}
+use Rattle.solver_law.specs.State.{Givens, Point}
+use Rattle.solver_law.specs.Forest.{Joins, Without}
 use Rattle.solver_law.specs.Cost.{cost, lack}
 use Rattle.solver_law.specs.Closing.{InClosing, Closed, AtRest}
 use Rattle.units.specs.Separation.{separation_at}

@@ -1,7 +1,7 @@
 //! The next stop of a closing.
 ghost use Rattle.std.specs.Prelude.{◌≡◌, ◌<◌, ◌↔◌, ℕ, ℤ, length, IfOk, IfSome, IsTrue, pos, nat_abs, ◌≤◌, ◌<ℤ◌};
 ghost use Rattle.block_sums.specs.Legs.{IsReached};
-ghost use Rattle.block_sums.specs.Solving.{Active, IsActive, IsBounded};
+ghost use Rattle.block_sums.specs.Solving.{Active, IsActive, HasBounds};
 ghost use Rattle.block_sums.specs.Loads.{load_at};
 ghost use Rattle.block_sums.specs.Stops.{IsSmall, IsClosingForce};
 ghost use Rattle.vpsc_solve.specs.Stops.{IsStop, IsStopBetween, IsFeasible, IsUnderWay, stop_within};
@@ -68,8 +68,8 @@ pub fn next_stop(
 /// The force that closes the gap between two blocks.
 fn force_between(closing: u16, sep: &Sep, left: &BlockSums, right: &BlockSums) -> Threshold
     requires gap { nat_abs sep.now.gap ≤ 1000000 }
-    requires left_bounded { IsBounded left.now.legs.items left.now.weights.items left.now.moments.items }
-    requires right_bounded { IsBounded right.now.legs.items right.now.weights.items right.now.moments.items }
+    requires left_bounded { HasBounds left.now }
+    requires right_bounded { HasBounds right.now }
     requires left_heavy { pos 0 <ℤ load_at left.now.weights.items 0 }
     requires right_heavy { pos 0 <ℤ load_at right.now.weights.items 0 }
     ensures force { IsClosingForce sep.now.gap (load_at left.now.weights.items 0) (load_at left.now.moments.items 0) (load_at right.now.weights.items 0) (load_at right.now.moments.items 0) result }

@@ -1,9 +1,9 @@
 //! The places of the variables at rest.
 ghost use Rattle.std.specs.Prelude.{◌≡◌, ◌<◌, ◌≤◌, ◌+ℤ◌, ◌*ℤ◌, ◌⊎◌, ℕ, length, IfOk, nat_abs, true, false, All, slice_index, List};
-ghost use Rattle.block_sums.specs.Ends.{end_at, IsChained};
+ghost use Rattle.block_sums.specs.Ends.{AreChains};
 ghost use Rattle.block_sums.specs.Legs.{leg_at};
 ghost use Rattle.block_sums.specs.Loads.{load_at};
-ghost use Rattle.block_sums.specs.Solving.{IsActive, IsBounded};
+ghost use Rattle.block_sums.specs.Solving.{IsActive, HasBounds};
 ghost use Rattle.vpsc_solve.specs.declared.places.Place as place;
 ghost use Rattle.vpsc_solve.specs.Places.{place_at, is_settled, IsSmallPlace, IsLegPlace, IsPlaced, IsJoinedTo, AreSettled, ArePut};
 
@@ -33,7 +33,7 @@ fn turned_by(weight: i64, offset: i64) -> i64
 /// The place of the variable of a leg.
 fn place_of(block: &BlockSums, at: usize) -> Place
     requires at { at < length block.now.legs.items }
-    requires bounded { IsBounded block.now.legs.items block.now.weights.items block.now.moments.items }
+    requires bounded { HasBounds block.now }
     requires near { nat_abs (leg_at block.now.legs.items at).offset ≤ 257000000 }
     ensures { IsLegPlace block.now.legs.items block.now.weights.items block.now.moments.items at result }
 {
@@ -46,7 +46,7 @@ fn place_of(block: &BlockSums, at: usize) -> Place
 
 /// Puts the variables of a block at their places, and marks them.
 fn put_block(block: &BlockSums, places: &mut [Place], settled: &mut [bool])
-    requires bounded { IsBounded block.now.legs.items block.now.weights.items block.now.moments.items }
+    requires bounded { HasBounds block.now }
     requires near { All (λ leg. nat_abs leg.offset ≤ 257000000) block.now.legs.items }
     requires within { All (λ leg. leg.variable < length places.old) block.now.legs.items }
     requires as_long { length settled.old ≡ length places.old }
@@ -73,8 +73,8 @@ fn settle_block(
 ) -> Result<(), AllocError>
     requires active { IsActive problem.now active.now }
     requires root { root < length problem.now.desired }
-    requires lefts { IsChained (end_at problem.now.separations active.now false) (length active.now) (length problem.now.desired) lefts.now.lasts.items lefts.now.befores.items }
-    requires rights { IsChained (end_at problem.now.separations active.now true) (length active.now) (length problem.now.desired) rights.now.lasts.items rights.now.befores.items }
+    requires lefts { AreChains problem.now.separations active.now false (length problem.now.desired) lefts.now }
+    requires rights { AreChains problem.now.separations active.now true (length problem.now.desired) rights.now }
     requires as_long { length places.old ≡ length problem.now.desired }
     requires as_many { length settled.old ≡ length problem.now.desired }
     ensures so_far { IfOk result (λ _. (before : List place.Place) → AreSettled problem.now active.now before places.old settled.old → AreSettled problem.now active.now before places.new settled.new) }
@@ -99,8 +99,8 @@ fn settle_all(
 ) -> Result<(), AllocError>
     requires active { IsActive problem.now active.now }
     requires roots { All (λ i. i < length problem.now.desired) roots.now }
-    requires lefts { IsChained (end_at problem.now.separations active.now false) (length active.now) (length problem.now.desired) lefts.now.lasts.items lefts.now.befores.items }
-    requires rights { IsChained (end_at problem.now.separations active.now true) (length active.now) (length problem.now.desired) rights.now.lasts.items rights.now.befores.items }
+    requires lefts { AreChains problem.now.separations active.now false (length problem.now.desired) lefts.now }
+    requires rights { AreChains problem.now.separations active.now true (length problem.now.desired) rights.now }
     requires as_long { length places.old ≡ length problem.now.desired }
     requires as_many { length settled.old ≡ length problem.now.desired }
     requires none { (i : ℕ) → is_settled settled.old i ≡ false }

@@ -1,12 +1,10 @@
-use Rattle.std.proofs.Common.{◌≡◌, ◌<◌, ◌++◌, ◌∷◌, [], rules, arith, refl, sym, ap, ◌∙◌, length, subst, ℕ, ℤ, List, filter, not, eqb}
+use Rattle.std.proofs.Common.{◌≡◌, ◌<◌, sym, length, subst, ℕ, List}
 use Rattle.units.specs.Problem.{Problem}
 use Rattle.solver_law.specs.Forest.{Without}
-use Rattle.block_sums.specs.Solving.{Active, IsActive}
+use Rattle.block_sums.specs.Solving.{Active}
 use Rattle.vpsc_solve.specs.declared.stops.Stop.{Stop}
 use Rattle.vpsc_solve.specs.declared.stops.Stop.TheVariants.{Closes, Falls}
-use Rattle.vpsc_solve.specs.Stops.{IsStop, IsUnderWay, HasClosed}
-use Rattle.units.specs.Problem.{IsSeparation}
-use Rattle.units.specs.Separation.{no_separation, separation_at}
+use Rattle.vpsc_solve.specs.Stops.{IsStop, IsUnderWay}
 use Rattle.vpsc_solve.proofs.Touching.{touched-more, touched-now, differs-first, differs-less, differs-more}
 use Rattle.vpsc_solve.proofs.Lists.{left-over, keeps-over, filter-shorter, way-same, closed-list, active-less, active-more}
 use Rattle.vpsc_solve.proofs.closing.close_gap.Goals as goal

@@ -1,4 +1,4 @@
-use Rattle.std.proofs.Common.{◌<◌, ◌≤◌, ℕ, ℤ, length}
+use Rattle.std.proofs.Common.{ℕ, ℤ, length}
 use Rattle.block_sums.specs.Solving.{Active, IsActive}
 use Rattle.vpsc_solve.specs.Stops.{IsUnderWay, AreTouched, DiffersAt}
 use Rattle.vpsc_solve.proofs.closing.close_gap.Given as goal

@@ -1,11 +1,10 @@
-use Rattle.std.proofs.Common.{◌≡◌, rules, arith, refl, sym, ap, ◌∙◌, length, true, false, subst, IsTrue, None, Option, ℕ, ◌<◌, ◌<ℤ◌, pos, ℤ, List, Bool, get_or, ◌↔◌}
+use Rattle.std.proofs.Common.{◌≡◌, rules, sym, length, true, false, subst, IsTrue, None, Option, ℕ, ◌<◌, ◌<ℤ◌, pos, ℤ, List, Bool}
 use Rattle.std.specs.List.{All}
 use Rattle.units.specs.declared.geometry.Sep.{Sep}
 use Rattle.units.specs.Problem.{Problem}
-use Rattle.units.specs.Problem as stated
 use Rattle.block_sums.specs.declared.legs.Leg.{Leg}
 use Rattle.block_sums.specs.declared.stops.Threshold.{Threshold}
-use Rattle.units.specs.Separation.{no_separation, separation_at}
+use Rattle.units.specs.Separation.{separation_at}
 use Rattle.block_sums.specs.Legs.{IsReached}
 use Rattle.block_sums.specs.Loads.{load_at}
 use Rattle.block_sums.specs.Solving.{IsSweep, AreMarks, TellsStates}

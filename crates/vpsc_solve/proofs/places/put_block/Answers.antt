@@ -1,4 +1,4 @@
-use Rattle.std.proofs.Common.{◌≡◌, ◌<◌, rules, arith, length, subst}
+use Rattle.std.proofs.Common.{◌<◌, rules, length}
 use Rattle.vpsc_solve.proofs.Placing.{put-first, put-next}
 use Rattle.vpsc_solve.proofs.places.put_block.Goals as goal
 

@@ -1,4 +1,3 @@
-use Rattle.std.proofs.Common.{◌≡◌, length}
 use Rattle.vpsc_solve.specs.Places.{ArePut}
 use Rattle.vpsc_solve.proofs.places.put_block.Given as goal
 

@@ -1,4 +1,4 @@
-use Rattle.std.proofs.Common.{◌≡◌, ◌<◌, ◌+◌, ℕ, rules, arith, sym, subst, get_or, true, List, Bool, length}
+use Rattle.std.proofs.Common.{◌≡◌, ◌<◌, ◌+◌, ℕ, rules, arith, sym, subst, get_or, true, List, Bool}
 use Rattle.units.specs.Problem.{Problem}
 use Rattle.vpsc_solve.specs.declared.places.Place.{Place}
 use Rattle.vpsc_solve.specs.Places.{is_settled, AreSettled}

@@ -1,4 +1,4 @@
-use Rattle.std.proofs.Common.{◌≡◌, ◌<◌, ℕ, length, get_or, true}
+use Rattle.std.proofs.Common.{◌≡◌, ◌<◌, ℕ, get_or, true}
 use Rattle.vpsc_solve.specs.Places.{is_settled, AreSettled}
 use Rattle.vpsc_solve.proofs.places.settle_all.Given as goal
 

@@ -1,4 +1,3 @@
-use Rattle.std.proofs.Common.{◌≡◌, ◌<◌, rules, arith, length, subst}
 use Rattle.vpsc_solve.proofs.Placing.{legs-near, block-settled, root-settled, still-settled}
 use Rattle.vpsc_solve.proofs.places.settle_block.Goals as goal
 

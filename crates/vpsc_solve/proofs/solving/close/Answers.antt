@@ -1,4 +1,4 @@
-use Rattle.std.proofs.Common.{◌≡◌, subst, false}
+use Rattle.std.proofs.Common.{subst}
 use Rattle.vpsc_solve.specs.Stops.{IsViolation}
 use Rattle.vpsc_solve.proofs.Beginning.{violated-off, begins-below, if-ok}
 use Rattle.vpsc_solve.proofs.solving.close.Goals as goal

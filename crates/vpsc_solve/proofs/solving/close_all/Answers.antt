@@ -1,4 +1,4 @@
-use Rattle.std.proofs.Common.{◌≡◌, ◌<◌, ◌*◌, ℕ, ℤ, pos, ◌*ℤ◌, nat_abs, List, length, refl, sym, subst, ◌∙◌, Some, None, rules}
+use Rattle.std.proofs.Common.{◌≡◌, ◌<◌, ℕ, ℤ, pos, nat_abs, List, length, refl, sym, subst, Some, rules}
 use Rattle.units.specs.Problem.{Problem}
 use Rattle.units.specs.Problem as stated
 use Rattle.solver_law.specs.Cost.{cost}
@@ -10,7 +10,7 @@ use Rattle.vpsc_solve.specs.Places.{IsBrokenAt, IsPlaced, ArePlaced, place_at}
 use Rattle.vpsc_solve.specs.Stops.{IsViolation, HasClosed, DiffersAt}
 use Rattle.vpsc_solve.proofs.Standing.{all-small, broken-violates, unbroken-solved}
 use Rattle.vpsc_solve.proofs.Moving.{kept-or-joined}
-use Rattle.vpsc_solve.proofs.Potential.{common, common-large, cost_over, left_over, same-cost, less-left}
+use Rattle.vpsc_solve.proofs.Potential.{common, common-large, cost_over, same-cost, less-left}
 use Rattle.vpsc_solve.proofs.solving.close_all.Goals as goal
 
 pub first_violated-requires-clause-small : goal.first_violated-requires-clause-small

@@ -1,4 +1,3 @@
-use Rattle.std.proofs.Common.{◌-◌, ℕ, length}
 use Rattle.block_sums.specs.Solving.{IsActive}
 use Rattle.block_sums.specs.Rest.{HasRest}
 use Rattle.vpsc_solve.specs.Places.{ArePlaced}

@@ -1,6 +1,5 @@
-use Rattle.std.proofs.Common.{◌≡◌, ◌<◌, rules, sym, subst, ◌∙◌, ap, length, ℕ, ℤ, List, true}
+use Rattle.std.proofs.Common.{◌≡◌, ◌<◌, sym, subst, length, ℕ, ℤ, List, true}
 use Rattle.units.specs.Problem.{Problem}
-use Rattle.solver_law.specs.Forest.{With}
 use Rattle.block_sums.specs.Solving.{Active, IsActive}
 use Rattle.vpsc_solve.specs.Stops.{IsFeasible, IsUnderWay, IsViolation, HasClosed, DiffersAt}
 use Rattle.vpsc_solve.specs.Mirror.{turned_problem}

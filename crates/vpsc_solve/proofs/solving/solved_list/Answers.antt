@@ -1,4 +1,4 @@
-use Rattle.vpsc_solve.proofs.Starting.{empty-active, empty-rest}
+use Rattle.vpsc_solve.proofs.Starting.{empty-rest}
 use Rattle.vpsc_solve.proofs.solving.solved_list.Goals as goal
 
 pub close_all-requires-clause-rest : goal.close_all-requires-clause-rest

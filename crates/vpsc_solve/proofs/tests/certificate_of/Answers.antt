@@ -1,10 +1,8 @@
-use Rattle.std.proofs.Common.{◌≡◌, ℕ, ℤ, ◌<◌, List, subst, sym, arith}
+use Rattle.std.proofs.Common.{◌≡◌, ℤ, List, subst, arith}
 use Rattle.units.specs.declared.geometry.Sep.{Sep}
 use Rattle.units.specs.Problem.{Problem}
 use Rattle.units.specs.Separation.{SatisfiesAll}
 use Rattle.cycle_test.specs.Feasibility.{IfPlaces}
-use Rattle.cycle_test.specs.declared.verdict.Verdict.{Verdict}
-use Rattle.cycle_test.specs.declared.verdict.Verdict.TheVariants.{Places}
 use Rattle.vpsc_solve.specs.Stops.{IsFeasible}
 use Rattle.vpsc_solve.proofs.tests.certificate_of.Goals as goal
 
