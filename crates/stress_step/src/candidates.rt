@@ -28,7 +28,7 @@ struct Pulls {
     y: Sequence<i64>,
 }
 
-/// The pulls of all shapes on both axes. Each distance is computed once.
+/// The pulls of all shapes on both axes. The distances from a shape serve both.
 fn all_pulls(
     alloc: Global,
     scene: &Scene,
