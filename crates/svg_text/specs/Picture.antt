@@ -1,4 +1,5 @@
--- The text of a picture (the form is this project's own; the elements and attributes are those of SVG).
+-- The text of a picture. The form is this project's own; the elements and attributes are those of SVG 1.1. Numbers are
+-- whole diagram units, in decimal digits.
 use Rattle.std.specs.Prelude.{ℕ, ℤ, pos, ◌+ℤ◌, ◌-ℤ◌, List, [], ◌∷◌, ◌++◌, codes, map, fold, Option, Some, None, slice_get, unwrap_or}
 use Rattle.std.specs.Fmt.{signed_decimal}
 use Rattle.std.specs.Int.{int_max, int_min}
@@ -56,6 +57,7 @@ shown d axis places = widened (bounds d axis places)
 
 -- ---- elements
 
+-- how long a span is
 abbrev pub length_of : Span → ℤ
 length_of s = s.high -ℤ s.low
 
@@ -63,39 +65,46 @@ length_of s = s.high -ℤ s.low
 abbrev pub joined : List (List ℕ) → List ℕ
 joined texts = flat_map (λ (text : List ℕ). text) texts
 
+-- the first line of a picture that shows these parts of the axes
 unfoldable pub head_text : Span → Span → List ℕ
 head_text x y = joined (codes "<svg xmlns=\"http://www.w3.org/2000/svg\" viewBox=\""
     ∷ signed_decimal x.low ∷ codes " " ∷ signed_decimal y.low ∷ codes " " ∷ signed_decimal (length_of x) ∷ codes " " ∷ signed_decimal (length_of y)
     ∷ codes "\">\n" ∷ [])
 
+-- a rectangle over these parts of the axes: its class, fill and stroke are words
 unfoldable pub rect_text : List ℕ → Span → Span → List ℕ → List ℕ → List ℕ
 rect_text class x y fill stroke = joined (codes "<rect class=\"" ∷ class
     ∷ codes "\" x=\"" ∷ signed_decimal x.low ∷ codes "\" y=\"" ∷ signed_decimal y.low
     ∷ codes "\" width=\"" ∷ signed_decimal (length_of x) ∷ codes "\" height=\"" ∷ signed_decimal (length_of y)
     ∷ codes "\" fill=\"" ∷ fill ∷ codes "\" stroke=\"" ∷ stroke ∷ codes "\"/>\n" ∷ [])
 
+-- a line from one point to another
 unfoldable pub line_text : List ℕ → Pt → Pt → List ℕ → List ℕ
 line_text class from to stroke = joined (codes "<line class=\"" ∷ class
     ∷ codes "\" x1=\"" ∷ signed_decimal from.x ∷ codes "\" y1=\"" ∷ signed_decimal from.y
     ∷ codes "\" x2=\"" ∷ signed_decimal to.x ∷ codes "\" y2=\"" ∷ signed_decimal to.y
     ∷ codes "\" stroke=\"" ∷ stroke ∷ codes "\"/>\n" ∷ [])
 
+-- the ellipse of an oval, by its middle and its radii
 unfoldable pub ellipse_text : Pt → ℤ → ℤ → List ℕ
 ellipse_text middle rx ry = joined (codes "<ellipse class=\"shape\" cx=\"" ∷ signed_decimal middle.x ∷ codes "\" cy=\"" ∷ signed_decimal middle.y
     ∷ codes "\" rx=\"" ∷ signed_decimal rx ∷ codes "\" ry=\"" ∷ signed_decimal ry ∷ codes "\" fill=\"white\" stroke=\"black\"/>\n" ∷ [])
 
+-- the polygon of a diamond: its upper, right, lower and left corner
 unfoldable pub diamond_text : Pt → Span → Span → List ℕ
 diamond_text middle x y = joined (codes "<polygon class=\"shape\" points=\""
     ∷ signed_decimal middle.x ∷ codes "," ∷ signed_decimal y.low ∷ codes " " ∷ signed_decimal x.high ∷ codes "," ∷ signed_decimal middle.y
     ∷ codes " " ∷ signed_decimal middle.x ∷ codes "," ∷ signed_decimal y.high ∷ codes " " ∷ signed_decimal x.low ∷ codes "," ∷ signed_decimal middle.y
     ∷ codes "\" fill=\"white\" stroke=\"black\"/>\n" ∷ [])
 
+-- the name of a shape, at its middle
 unfoldable pub label_text : Pt → NameOf → List ℕ
 label_text middle name = joined (codes "<text x=\"" ∷ signed_decimal middle.x ∷ codes "\" y=\"" ∷ signed_decimal middle.y
     ∷ codes "\" text-anchor=\"middle\">" ∷ name ∷ codes "</text>\n" ∷ [])
 
 -- ---- items
 
+-- the page, and a group: the rectangle between its edges
 abbrev pub page_text : Diagram → Places → Page → List ℕ
 page_text d places p = rect_text (codes "page") (edge_span d X places p.name) (edge_span d Y places p.name) (codes "none") (codes "silver")
 
@@ -107,9 +116,11 @@ abbrev pub guide_ends : Axis → ℤ → Span → Span → Pt × Pt
 guide_ends X at x y = (record { x = at; y = y.low }, record { x = at; y = y.high })
 guide_ends Y at x y = (record { x = x.low; y = at }, record { x = x.high; y = at })
 
+-- a guideline between these ends
 abbrev pub guide_line : Pt × Pt → List ℕ
 guide_line ends = line_text (codes "guide") ends.0 ends.1 (codes "blue")
 
+-- a guideline at its place, across the parts of the axes that the picture shows
 abbrev pub guide_text : Diagram → Places → Span → Span → Guide → List ℕ
 guide_text d places x y g = guide_line (guide_ends g.axis (place_of d g.axis places (OfItem g.name)) x y)
 
@@ -117,20 +128,24 @@ guide_text d places x y g = guide_line (guide_ends g.axis (place_of d g.axis pla
 abbrev pub end_of : Diagram → Places → NameOf → Pt
 end_of d places name = option_map_or (middle_of d places) (shape_named d name) (record { x = pos 0; y = pos 0 })
 
+-- a link: a line between the middles of its two shapes
 abbrev pub link_text : Diagram → Places → Link → List ℕ
 link_text d places l = line_text (codes "link") (end_of d places l.a) (end_of d places l.b) (codes "black")
 
+-- the outline of a shape, by its form
 abbrev pub outline_text : Form → Shape → Pt → Span → Span → List ℕ
 outline_text form.Box s middle x y = rect_text (codes "shape") x y (codes "white") (codes "black")
 outline_text form.Oval s middle x y = ellipse_text middle (half s.w) (half s.h)
 outline_text form.Diamond s middle x y = diamond_text middle x y
 
+-- a shape: its outline, and its name
 abbrev pub shape_text : Diagram → Places → Shape → List ℕ
 shape_text d places s =
     outline_text s.form s (middle_of d places s) (shape_span d X places s) (shape_span d Y places s) ++ label_text (middle_of d places s) s.name
 
 -- ---- the picture
 
+-- the items of each sort, in the order of making
 abbrev pub pages_text : Diagram → Places → List ℕ
 pages_text d places = option_map_or (page_text d places) (slice_get d.pages 0) []
 
