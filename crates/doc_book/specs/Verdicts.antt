@@ -1,7 +1,6 @@
 -- The answer to an edit.
 use Rattle.std.specs.Prelude.{◌≡◌, ℕ, List, [], ◌∷◌, length, nat_le, if◌then◌else◌, Bool, true, false, Option, Some, None, MatchOption}
 use Rattle.std.specs.Option.{option_map}
-use Rattle.units.specs.declared.geometry.Axis.{Axis}
 use Rattle.units.specs.declared.geometry.Axis.TheVariants.{X, Y}
 use Rattle.scene_model.specs.Diagram.{Diagram}
 use Rattle.scene_model.specs.Separations.{separations}
