@@ -5,6 +5,7 @@ mod arc;
 mod law;
 mod reach;
 mod relax;
+mod rising;
 mod sweep;
 mod verdict;
 

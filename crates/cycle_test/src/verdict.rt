@@ -8,6 +8,7 @@ ghost use Rattle.cycle_test.specs.Search.{values};
 
 use crate::CycleArc;
 use crate::reach::{Reach, Relaxation};
+use crate::rising::risen;
 use crate::sweep::sweep;
 use std::alloc::{AllocError, Global};
 use units::{Memory, Sep, Sequence};
@@ -52,8 +53,9 @@ fn places_of(alloc: Global, reaches: &[Reach]) -> Result<Sequence<i64>, AllocErr
 /// between two different variables below `n`, with a gap within 1,000,000 diagram units of 0. Answers `Memory` for
 /// want of memory alone.
 ///
-/// The method is a longest-path relaxation (Bellman and Ford) in which each value keeps the path that it rests on,
-/// so that a cycle shows itself at the first arc that closes one.
+/// The method is a longest-path relaxation (Bellman and Ford). It runs without paths first; where the values don't come
+/// to rest, it runs again, and each value keeps the path that it rests on, so that a cycle shows itself at the first arc
+/// that closes one.
 pub fn test(alloc: Global, n: u16, seps: &[Sep]) -> Result<Verdict, Memory>
     requires variables { n ≤ 258 }
     requires count { length seps.now ≤ 2048 }
@@ -63,6 +65,9 @@ pub fn test(alloc: Global, n: u16, seps: &[Sep]) -> Result<Verdict, Memory>
     ensures positive { IfOk result (λ verdict. IfCycle verdict (λ arcs. IsPositiveCycle seps.now arcs)) }
     ensures exactly { IfOk result (λ verdict. IsTrue (is_cycle verdict) ↔ HasPositiveCycle seps.now) }
 {
+    if let Some(places) = risen(alloc, n, seps)? {
+        return Ok(Verdict::Places(places));
+    }
     let mut reaches = unreached(alloc, n)?;
     'rounds: loop {
         match sweep(alloc, seps, &mut reaches)? {

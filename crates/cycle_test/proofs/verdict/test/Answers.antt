@@ -1,4 +1,5 @@
-use Rattle.std.proofs.Common.{List, subst, ap, ◌∙◌}
+use Rattle.std.proofs.Common.{◌≡◌, List, ℤ, length, IfSome, subst, ap, ◌∙◌}
+use Rattle.units.specs.Separation.{SatisfiesAll}
 use Rattle.cycle_test.specs.declared.reach.Reach.{Reach}
 use Rattle.cycle_test.specs.Search.{IsRelaxation, values}
 use Rattle.cycle_test.proofs.Bounds.{within_limits}
@@ -27,3 +28,9 @@ rounds-smaller c =
     let new = c.sweep.new.reaches.items in
     let rise = subst (IsRelaxation seps old new _) c.in-Raised.is c.in_ok-sweep.ensures in
     nearer seps c.args.n 1000000 old new (within_limits c.args.n seps c.requires.sound) c.rounds.invariant.0 rise
+
+pub returns-in-Some-clause-exactly : goal.returns-in-Some-clause-exactly
+returns-in-Some-clause-exactly c =
+    let seps = c.args.seps.now in
+    let met = subst (λ found. IfSome found (λ (places : List ℤ). (length places ≡ c.args.n) × SatisfiesAll places 1 seps)) c.in-Some.is c.in_ok-places.ensures in
+    no_cycle seps c.in-Some.places met.1
