@@ -1,4 +1,4 @@
-//! What no clause says: that with ample memory a table is made, and what it is of a chain of 62 shapes and one alone.
+//! What no clause says: that with ample memory a table is made, and what it is of a chain of 62 shapes and a triangle.
 ghost use Rattle.std.specs.Prelude.{◌≡◌, ◌<◌, length};
 ghost use Rattle.scene_model.specs.Sound.{IsShape};
 
@@ -81,15 +81,18 @@ fn join(scene: &mut Scene, letter: u8, from: u8, to: u8) -> Result<(), Fail>
     )
 }
 
-/// A chain of 62 boxes, and one alone. The first two are linked twice, in both directions.
+/// A chain of 62 boxes, of which the first two are linked twice, in both directions; and three that are linked round.
 fn chain(scene: &mut Scene) -> Result<(), Fail> {
-    for number in 0..63u8 {
+    for number in 0..65u8 {
         add(scene, a_box(named(b's', number)?))?;
     }
     for number in 0..61u8 {
         join(scene, b'l', number, number + 1)?;
     }
-    join(scene, b'm', 1, 0)
+    join(scene, b'm', 1, 0)?;
+    join(scene, b't', 62, 63)?;
+    join(scene, b't', 63, 64)?;
+    join(scene, b't', 64, 62)
 }
 
 /// The hop distance of two shapes of the table.
@@ -102,7 +105,7 @@ fn told(table: &HopTable, scene: &Scene, i: u16, j: u16) -> Option<u8>
     table.get(i, j)
 }
 
-/// Whether the table of the chain tells the distances along it, up to 60.
+/// Whether the table tells the distances along the chain, up to 60, and round the triangle.
 fn is_chain_told(scene: &Scene, alloc: Global) -> Result<bool, Fail> {
     let table = hops(alloc, scene)?;
     Ok(
@@ -111,7 +114,9 @@ fn is_chain_told(scene: &Scene, alloc: Global) -> Result<bool, Fail> {
             && told(&table, scene, 0, 60) == Some(60)
             && told(&table, scene, 0, 61).is_none()
             && told(&table, scene, 61, 1) == Some(60)
-            && told(&table, scene, 30, 62).is_none(),
+            && told(&table, scene, 30, 62).is_none()
+            && told(&table, scene, 62, 63) == Some(1)
+            && told(&table, scene, 62, 64) == Some(1),
     )
 }
 
