@@ -34,6 +34,10 @@ hull (Some t) s = Some (record { low = int_min t.low s.low; high = int_max t.hig
 abbrev pub shape_spans : Diagram → Axis → Places → List Span
 shape_spans d axis places = map (shape_span d axis places) d.shapes
 
+-- the least span that has all shapes
+abbrev pub shapes_span : Diagram → Axis → Places → Option Span
+shapes_span d axis places = fold hull None (shape_spans d axis places)
+
 abbrev pub group_spans : Diagram → Axis → Places → List Span
 group_spans d axis places = map (λ (g : Group). edge_span d axis places g.name) d.groups
 

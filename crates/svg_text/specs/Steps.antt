@@ -1,5 +1,5 @@
 -- What the steps of writing a picture know: its bounds sort by sort, and its text part by part.
-use Rattle.std.specs.Prelude.{ℕ, List, [], ◌∷◌, ◌++◌, codes, fold, None, Option}
+use Rattle.std.specs.Prelude.{ℕ, List, [], ◌∷◌, ◌++◌, codes, fold, Option}
 use Rattle.std.specs.List.{flat_map}
 use Rattle.units.specs.declared.geometry.Axis.{Axis}
 use Rattle.scene_model.specs.Diagram.{Diagram}
@@ -7,14 +7,11 @@ use Rattle.frame_store.specs.declared.places.Places.{Places}
 use Rattle.svg_text.specs.declared.picture.Part.{Part}
 use Rattle.svg_text.specs.declared.picture.Part.TheVariants as part
 use Rattle.svg_text.specs.declared.spans.Span.{Span}
-use Rattle.svg_text.specs.Picture.{group_spans, groups_text, guides_text, head_text, hull, links_text, page_spans, pages_text, shape_spans, shapes_text}
+use Rattle.svg_text.specs.Picture.{group_spans, groups_text, guides_text, head_text, hull, links_text, page_spans, pages_text, shapes_span, shapes_text}
 
--- the least span that has the shapes, then the groups too, then the page too
-abbrev pub over_shapes : Diagram → Axis → Places → Option Span
-over_shapes d axis places = fold hull None (shape_spans d axis places)
-
+-- the least span that has the groups too, then the page too
 abbrev pub over_groups : Diagram → Axis → Places → Option Span
-over_groups d axis places = fold hull (over_shapes d axis places) (group_spans d axis places)
+over_groups d axis places = fold hull (shapes_span d axis places) (group_spans d axis places)
 
 abbrev pub over_page : Diagram → Axis → Places → Option Span
 over_page d axis places = fold hull (over_groups d axis places) (page_spans d axis places)

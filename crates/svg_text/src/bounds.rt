@@ -1,9 +1,9 @@
 //! The bounds of the picture.
 ghost use Rattle.std.specs.Prelude.{◌≡◌, ◌≤◌, ◌^◌, IfSome, nat_abs};
 ghost use Rattle.std.specs.Int.{int_max, int_min};
-ghost use Rattle.svg_text.specs.Picture.{hull, shown, widened};
+ghost use Rattle.svg_text.specs.Picture.{hull, shapes_span, shown, widened};
 ghost use Rattle.svg_text.specs.Points.{AreNear, IsVeryWide, IsWide};
-ghost use Rattle.svg_text.specs.Steps.{over_groups, over_page, over_shapes};
+ghost use Rattle.svg_text.specs.Steps.{over_groups, over_page};
 
 use crate::points::{edge_span, shape_span};
 use crate::spans::Span;
@@ -45,10 +45,11 @@ fn hull(so_far: Option<Span>, span: Span) -> Option<Span>
     }
 }
 
-/// The least span that has all shapes.
-fn over_shapes(scene: &Scene, axis: Axis, places: &Places) -> Option<Span>
+/// The part of an axis that the shapes take, from the least low place of one to the greatest high place of one: None exactly
+/// where there is no shape. Places lie within 2^31 of 0.
+pub fn shapes_span(scene: &Scene, axis: Axis, places: &Places) -> Option<Span>
     requires { AreNear places.now }
-    ensures value { result ≡ over_shapes scene.now axis places.now }
+    ensures value { result ≡ shapes_span scene.now axis places.now }
     ensures wide { IfSome result IsWide }
 {
     let mut so_far = None;
@@ -64,7 +65,7 @@ fn over_groups(scene: &Scene, axis: Axis, places: &Places) -> Option<Span>
     ensures value { result ≡ over_groups scene.now axis places.now }
     ensures wide { IfSome result IsWide }
 {
-    let mut so_far = over_shapes(scene, axis, places);
+    let mut so_far = shapes_span(scene, axis, places);
     for at in 0..scene.count(Sort::Group) {
         so_far = hull(
             so_far,
