@@ -25,7 +25,7 @@ use Rattle.multiplier_check.specs.Certificate.{IsCertificate}
 use Rattle.multiplier_check.specs.Placement.{Placement, IsPlacement, Keeps, IsProjection}
 use Rattle.multiplier_check.proofs.Law.{IsLeast-same}
 use Rattle.vpsc_solve.specs.Stops.{IsFeasible}
-use Rattle.axis_project.specs.Feasibility.{IsFeasibleAxis}
+use Rattle.sep_gen.specs.Feasibility.{IsFeasibleAxis}
 use Rattle.axis_project.specs.Projection.{weights, problem_of, IsShown}
 use Rattle.axis_project.proofs.Separated.{separations_sound}
 

@@ -1,2 +1,1 @@
-pub mod Feasibility
 pub mod Projection

@@ -2,7 +2,7 @@
 ghost use Rattle.std.specs.Prelude.{◌≡◌, ◌≤◌, All, IfOk, length, nat_abs};
 ghost use Rattle.scene_model.specs.Separations.{separations};
 ghost use Rattle.scene_model.specs.Variables.{variables};
-ghost use Rattle.axis_project.specs.Feasibility.{IsFeasibleAxis};
+ghost use Rattle.sep_gen.specs.Feasibility.{IsFeasibleAxis};
 ghost use Rattle.axis_project.specs.Projection.{weights, problem_of, IsShown};
 
 use multiplier_check::Certificate;

@@ -2,7 +2,7 @@
 ghost use Rattle.std.specs.Prelude.{◌≤◌, All, IfOk, IsTrue, length, nat_abs};
 ghost use Rattle.scene_model.specs.Separations.{separations};
 ghost use Rattle.scene_model.specs.Sound.{IsCoordinate};
-ghost use Rattle.axis_project.specs.Feasibility.{IsFeasibleAxis};
+ghost use Rattle.sep_gen.specs.Feasibility.{IsFeasibleAxis};
 
 use crate::project;
 use cycle_test::{Verdict, test};

@@ -5,11 +5,12 @@ use Rattle.std.specs.Prelude.{◌↔◌, IsTrue, MatchOption, fold}
 use Rattle.std.proofs.lemmas.List.{length-append, length-map}
 use Rattle.units.specs.declared.geometry.Axis.{Axis}
 use Rattle.units.specs.declared.geometry.Axis.TheVariants.{X, Y}
-use Rattle.scene_model.specs.Diagram.{Diagram, empty_diagram}
+use Rattle.scene_model.specs.Diagram.{Diagram}
 use Rattle.scene_model.specs.Variables.{variables}
 use Rattle.edit_rules.specs.declared.edits.Edit.{Edit}
-use Rattle.edit_rules.specs.Effects.{edited, scene_of, HasFewMoves}
-use Rattle.edit_rules.proofs.Changing.{HasFewMoves-scene_of, HasFewMoves-weaker}
+use Rattle.edit_rules.specs.Effects.{edited, scene_of}
+use Rattle.undo_store.specs.Along.{without_last}
+use Rattle.undo_store.proofs.Lasting.{without_last-short}
 use Rattle.frac128.specs.Fraction.{floor_of}
 use Rattle.multiplier_check.specs.declared.certificate.Certificate.{Certificate}
 use Rattle.frame_store.specs.declared.places.Places.{Places}
@@ -21,13 +22,13 @@ use Rattle.doc_book.specs.declared.entries.Act.{Act}
 use Rattle.doc_book.specs.declared.entries.Act.TheVariants as act
 use Rattle.doc_book.specs.Frames.{IsFrameOf}
 use Rattle.doc_book.specs.Growing.{entry_of}
-use Rattle.doc_book.specs.History.{edits_after, standing, scene_at, places_at, is_end, is_frame, end_place, after_end, frame_count}
-use Rattle.doc_book.specs.Kept.{IsKept, IsUncrowded, IsOpenCount, IsEndedCount}
-use Rattle.doc_book.specs.Legal.{HasRoom, most_finishing}
+use Rattle.doc_book.specs.History.{edits_after, standing, scene_at, places_at, places_after, is_end, is_frame, end_place, after_end, frame_count}
+use Rattle.doc_book.specs.Kept.{IsKept, IsOpenCount, IsEndedCount}
+use Rattle.doc_book.specs.Legal.{HasRoom, MayFollow, most_finishing}
 use Rattle.axis_project.specs.Projection.{IsShown}
-use Rattle.doc_book.specs.Verdicts.{IsVerdict, is_link_edit}
+use Rattle.doc_book.specs.Verdicts.{IsVerdict, undo_verdict, closed_refusal}
 use Rattle.doc_book.proofs.Growing.{fold-push, scene_at-push, scene_of-push, places_at-push, IsLegal-push, IsSettled-push, IsSettled-push_frame, IsSettled-push_same, end_place-push_none, end_place-push_end, end_place-push_some, after_end-push_some, after_end-push_end}
-use Rattle.doc_book.proofs.Refusing.{accepted, not_ended, not_full}
+use Rattle.doc_book.proofs.Refusing.{open-not_ended, open-not_full, not_closed, undo-not_closed}
 
 frame_count-push : (h : List Entry) (e : Entry) → frame_count (h ++ e ∷ []) ≡ frame_count h + cond (is_frame e) 1 0
 frame_count-push h e = fold-push (λ n (x : Entry). n + cond (is_frame x) 1 0) 0 h e
@@ -36,11 +37,12 @@ length-push : (h : List Entry) (e : Entry) → length (h ++ e ∷ []) ≡ length
 length-push h e = length-append h (e ∷ [])
 
 -- there are at most as many standing edits as entries
-standing-short : (h : List Entry) → length (standing h) ≤ length h
+pub standing-short : (h : List Entry) → length (standing h) ≤ length h
 standing-short h = let le = along h [] in omega (arith, le)
   where
     one : (edits : List Edit) (a : Act) → length (edits_after edits a) ≤ length edits + 1
     one edits (act.Edit e) = omega (arith, length-append edits (e ∷ []))
+    one edits act.Undo = omega (arith, without_last-short edits)
     one edits (act.Frame f) = omega arith
     one edits act.End = omega arith
 
@@ -48,47 +50,54 @@ standing-short h = let le = along h [] in omega (arith, le)
     along [] edits = omega arith
     along (e ∷ es) edits = let more = along es (edits_after edits e.act) in omega (arith, more, one edits e.act)
 
--- no shape or guideline of a history was moved more often than there are entries
-pub few_moves_at : (h : List Entry) (n : ℕ) → length h ≤ n → HasFewMoves n (scene_at h)
-few_moves_at h n le =
-    let short = standing-short h in
-    HasFewMoves-weaker (0 + length (standing h)) n (scene_at h) (omega (arith, short, le)) (HasFewMoves-scene_of 0 (standing h) empty_diagram (record { shapes = tt; guides = tt }))
-
--- each shape and guideline of the book can be moved once more
-pub few_moves : (h : List Entry) (budget : ℕ) (scene : Diagram) (places : Places) (settled : Bool) → IsKept h budget scene places settled → end_place h ≡ None → HasFewMoves 4294967294 scene
-few_moves h budget scene places settled k open_history =
+-- an edit or undo that the history accepts: the places are carried
+IsKept-change : (h : List Entry) (budget : ℕ) (scene : Diagram) (places : Places) (settled : Bool) (entry : Entry) (scene' : Diagram) (places' : Places)
+    → IsKept h budget scene places settled → closed_refusal h ≡ None → MayFollow h budget entry → is_end entry ≡ false → is_frame entry ≡ false
+    → ((before after : Diagram) (p : Places) → places_after entry.act before after p ≡ carried before after p)
+    → scene' ≡ scene_of (edits_after (standing h) entry.act) → places' ≡ carried scene scene' places
+    → IsKept (h ++ entry ∷ []) budget scene' places' false
+IsKept-change h budget scene places settled entry scene' places' k accepted may no_end no_frame carries next places_are =
+    let open_history = open-not_ended h accepted in
     let counts = subst (λ o. MatchOption o (IsOpenCount h budget) (λ _. IsEndedCount h budget)) open_history k.counts in
-    subst (HasFewMoves 4294967294) (sym k.scene_is) (few_moves_at h 4294967294 (omega (arith, counts.frames, counts.entries, k.budget_small)))
-
--- an edit that the history accepts
-pub IsKept-edit : (h : List Entry) (budget : ℕ) (scene : Diagram) (places : Places) (settled : Bool) (who line : ℕ) (e : Edit) (scene' : Diagram) (places' : Places)
-    → IsKept h budget scene places settled → is_link_edit e ≡ false → IsVerdict h e None → scene' ≡ edited e scene → IsUncrowded scene' → places' ≡ carried scene scene' places
-    → IsKept (h ++ entry_of who line (act.Edit e) ∷ []) budget scene' places' false
-IsKept-edit h budget scene places settled who line e scene' places' k links is scene_is uncrowded places_are =
-    let none = (accepted h e is).0 in
-    let entry = entry_of who line (act.Edit e) in
-    let open_history = not_ended h e none in
-    let next : scene' ≡ scene_of (standing h ++ e ∷ []) = scene_is ∙ (ap (edited e) k.scene_is ∙ sym (scene_of-push (standing h) e)) in
-    let counts = subst (λ o. MatchOption o (IsOpenCount h budget) (λ _. IsEndedCount h budget)) open_history k.counts in
-    let full = not_full h e none in
+    let full = open-not_full h accepted in
     let longer = length-push h entry in
     let frames = frame_count-push h entry in
+    let none = counted_none (is_frame entry) no_frame in
+    let after = scene_of (edits_after (standing h) entry.act) in
     record {
-      legal = IsLegal-push h budget entry k.legal (links, is);
+      legal = IsLegal-push h budget entry k.legal may;
       scene_is = next ∙ sym (scene_at-push h entry);
       places_are =
           places_are
           ∙ (ap (λ d. carried d scene' places) k.scene_is
           ∙ (ap (λ d. carried (scene_at h) d places) next
-          ∙ (ap (carried (scene_at h) (scene_of (standing h ++ e ∷ []))) k.places_are ∙ sym (places_at-push h entry))));
+          ∙ (ap (carried (scene_at h) after) k.places_are ∙ (sym (carries (scene_at h) after (places_at h)) ∙ sym (places_at-push h entry)))));
       on_x = ap (λ (p : Places). length p.x) places_are ∙ length-map (variables scene' X) (kept_place (variables scene X) places.x);
       on_y = ap (λ (p : Places). length p.y) places_are ∙ length-map (variables scene' Y) (kept_place (variables scene Y) places.y);
-      uncrowded = uncrowded;
-      settled_is = (λ t. absurd (false≢true t), λ s. absurd (false≢true (IsSettled-push_frame h entry s)));
+      settled_is = (λ t. absurd (false≢true t), λ s. absurd (false≢true (sym no_frame ∙ IsSettled-push_frame h entry s)));
       budget_small = k.budget_small;
-      counts = subst (λ o. MatchOption o (IsOpenCount (h ++ entry ∷ []) budget) (λ _. IsEndedCount (h ++ entry ∷ []) budget)) (sym (end_place-push_none h entry open_history refl))
-          (record { frames = omega (arith, counts.frames, frames); entries = omega (arith, full, longer, frames) });
+      counts = subst (λ o. MatchOption o (IsOpenCount (h ++ entry ∷ []) budget) (λ _. IsEndedCount (h ++ entry ∷ []) budget)) (sym (end_place-push_none h entry open_history no_end))
+          (record { frames = omega (arith, counts.frames, frames, none); entries = omega (arith, full, longer, frames, none) });
     }
+  where
+    counted_none : (b : Bool) → b ≡ false → cond b 1 0 ≡ zero
+    counted_none b is = ap (λ t. cond t 1 0) is
+
+-- an edit that the history accepts
+pub IsKept-edit : (h : List Entry) (budget : ℕ) (scene : Diagram) (places : Places) (settled : Bool) (who line : ℕ) (e : Edit) (scene' : Diagram) (places' : Places)
+    → IsKept h budget scene places settled → IsVerdict h e None → scene' ≡ edited e scene → places' ≡ carried scene scene' places
+    → IsKept (h ++ entry_of who line (act.Edit e) ∷ []) budget scene' places' false
+IsKept-edit h budget scene places settled who line e scene' places' k accepted scene_is places_are =
+    IsKept-change h budget scene places settled (entry_of who line (act.Edit e)) scene' places' k (not_closed h e accepted) accepted refl refl (λ before after p. refl)
+    (scene_is ∙ (ap (edited e) k.scene_is ∙ sym (scene_of-push (standing h) e))) places_are
+
+-- an undo that the history accepts: the edits that are left are replayed, or the last one is taken back
+pub IsKept-undo : (h : List Entry) (budget : ℕ) (scene : Diagram) (places : Places) (settled : Bool) (who line : ℕ) (scene' : Diagram) (places' : Places)
+    → IsKept h budget scene places settled → undo_verdict h ≡ None → scene' ≡ scene_of (without_last (standing h)) → places' ≡ carried scene scene' places
+    → IsKept (h ++ entry_of who line act.Undo ∷ []) budget scene' places' false
+IsKept-undo h budget scene places settled who line scene' places' k accepted scene_is places_are =
+    IsKept-change h budget scene places settled (entry_of who line act.Undo) scene' places' k (undo-not_closed h accepted) accepted refl refl (λ before after p. refl)
+    scene_is places_are
 
 counted_one : (b : Bool) → b ≡ true → cond b 1 0 ≡ suc zero
 counted_one b is = ap (λ t. cond t 1 0) is
@@ -128,7 +137,6 @@ IsKept-frame h budget scene places settled who line f places' settled' k room is
       places_are = places_are ∙ sym drawn_are;
       on_x = ap (λ (p : Places). length p.x) places_are ∙ on_axis X scene f.desired.x f.x k.scene_is is.on_x;
       on_y = ap (λ (p : Places). length p.y) places_are ∙ on_axis Y scene f.desired.y f.y k.scene_is is.on_y;
-      uncrowded = k.uncrowded;
       settled_is = (
         λ t. IsSettled-push h entry refl (drawn_are ∙ (settled_is.0 t ∙ k.places_are)),
         λ s. settled_is.1 (sym drawn_are ∙ (IsSettled-push_same h entry s ∙ sym k.places_are)),
@@ -156,7 +164,6 @@ IsKept-end h budget scene places settled k open_history =
       places_are = k.places_are ∙ sym (places_at-push h entry);
       on_x = k.on_x;
       on_y = k.on_y;
-      uncrowded = k.uncrowded;
       settled_is = (λ t. absurd (false≢true t), λ s. absurd (false≢true (IsSettled-push_frame h entry s)));
       budget_small = k.budget_small;
       counts = subst (λ o. MatchOption o (IsOpenCount (h ++ entry ∷ []) budget) (λ _. IsEndedCount (h ++ entry ∷ []) budget)) (sym (end_place-push_end h entry open_history refl))

@@ -1,7 +1,12 @@
+pub mod Booking
+pub mod Drawn
+pub mod EndPlace
 pub mod Feasible
 pub mod Growing
+pub mod Jobs
 pub mod Keeping
+pub mod Later
+pub mod Playing
 pub mod Refusing
-pub mod Resting
-pub mod EndPlace
-pub mod Unconstrained
+pub mod Running
+pub mod Stepping

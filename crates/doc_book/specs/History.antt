@@ -4,6 +4,7 @@ use Rattle.std.specs.Option.{option_map}
 use Rattle.scene_model.specs.Diagram.{Diagram}
 use Rattle.edit_rules.specs.declared.edits.Edit.{Edit}
 use Rattle.edit_rules.specs.Effects.{scene_of}
+use Rattle.undo_store.specs.Along.{without_last}
 use Rattle.frame_store.specs.declared.places.Places.{Places}
 use Rattle.frame_store.specs.Frames.{drawn}
 use Rattle.frame_store.specs.Carry.{carried}
@@ -11,9 +12,11 @@ use Rattle.doc_book.specs.declared.entries.Entry.{Entry}
 use Rattle.doc_book.specs.declared.entries.Act.{Act}
 use Rattle.doc_book.specs.declared.entries.Act.TheVariants as act
 
--- the standing edits after an act: an edit is added at the end, all else changes nothing
+-- the standing edits after an act: an edit is added at the end, an undo takes the last one off, whoever made it, all
+-- else changes nothing
 abbrev pub edits_after : List Edit → Act → List Edit
 edits_after edits (act.Edit e) = edits ++ e ∷ []
+edits_after edits act.Undo = without_last edits
 edits_after edits (act.Frame f) = edits
 edits_after edits act.End = edits
 
@@ -29,9 +32,10 @@ scene_at h = scene_of (standing h)
 abbrev pub no_places : Places
 no_places = record { x = []; y = [] }
 
--- the places after an act that leads from one scene to another: carried after an edit, drawn after a frame
+-- the places after an act that leads from one scene to another: carried after an edit or undo, drawn after a frame
 abbrev pub places_after : Act → Diagram → Diagram → Places → Places
 places_after (act.Edit e) before after places = carried before after places
+places_after act.Undo before after places = carried before after places
 places_after (act.Frame f) before after places = drawn f
 places_after act.End before after places = places
 
@@ -58,12 +62,14 @@ places_at h = (moment_of h).places
 -- the act ends the document
 abbrev pub is_end_act : Act → Bool
 is_end_act (act.Edit e) = false
+is_end_act act.Undo = false
 is_end_act (act.Frame f) = false
 is_end_act act.End = true
 
 -- the act is a frame
 abbrev pub is_frame_act : Act → Bool
 is_frame_act (act.Edit e) = false
+is_frame_act act.Undo = false
 is_frame_act (act.Frame f) = true
 is_frame_act act.End = false
 

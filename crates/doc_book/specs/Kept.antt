@@ -1,26 +1,28 @@
 -- What a book keeps beside its history.
-use Rattle.std.specs.Prelude.{◌≡◌, ◌↔◌, ℕ, ◌+◌, ◌≤◌, List, length, Bool, IsTrue, None, MatchOption}
+use Rattle.std.specs.Prelude.{◌≡◌, ◌↔◌, ℕ, ◌+◌, ◌≤◌, List, [], ◌∷◌, length, Bool, IsTrue, MatchOption, ⊤}
 use Rattle.units.specs.declared.geometry.Axis.{Axis}
 use Rattle.units.specs.declared.geometry.Axis.TheVariants.{X, Y}
-use Rattle.scene_model.specs.Diagram.{Diagram}
+use Rattle.scene_model.specs.Diagram.{Diagram, empty_diagram}
 use Rattle.scene_model.specs.Separations.{separations}
+use Rattle.scene_model.specs.Sound.{IsSound}
 use Rattle.scene_model.specs.Variables.{variables}
+use Rattle.edit_rules.specs.declared.edits.Edit.{Edit}
+use Rattle.edit_rules.specs.Effects.{edited, scene_of}
 use Rattle.edit_rules.specs.Refusals.{most_separations}
 use Rattle.frame_store.specs.declared.places.Places.{Places}
 use Rattle.doc_book.specs.declared.entries.Entry.{Entry}
-use Rattle.doc_book.specs.History.{scene_at, places_at, end_place, frame_count, after_end, IsSettled}
+use Rattle.doc_book.specs.History.{standing, scene_at, places_at, end_place, frame_count, after_end, IsSettled}
 use Rattle.doc_book.specs.Legal.{most_frames, most_finishing, IsLegal}
-use Rattle.doc_book.specs.Verdicts.{most_entries, IsFeasibility}
+use Rattle.doc_book.specs.Verdicts.{most_entries}
 
 -- no axis has more separations than it may
 abbrev pub IsUncrowded : Diagram → Type 0
 IsUncrowded scene = (axis : Axis) → length (separations scene axis) ≤ most_separations
 
--- the scene is this one, no axis has more separations than it may, and both are feasible
-pub record IsFeasibleScene (whole scene : Diagram) : Type 0 where
-  pub is : scene ≡ whole
-  pub uncrowded : IsUncrowded scene
-  pub feasible : IsFeasibility scene None
+-- the scene of those before each of the edits is well formed, from a scene on
+abbrev pub AllSound : Diagram → List Edit → Type 0
+AllSound scene [] = ⊤
+AllSound scene (e ∷ es) = IsSound scene × AllSound (edited e scene) es
 
 -- a history that was not ended has at most 20,000 entries and its frames, and no more frames than its budget
 pub record IsOpenCount (h : List Entry) (budget : ℕ) : Type 0 where
@@ -41,7 +43,13 @@ pub record IsKept (h : List Entry) (budget : ℕ) (scene : Diagram) (places : Pl
   pub places_are : places ≡ places_at h
   pub on_x : length places.x ≡ length (variables scene X)
   pub on_y : length places.y ≡ length (variables scene Y)
-  pub uncrowded : IsUncrowded scene
   pub settled_is : IsTrue settled ↔ IsSettled h
   pub budget_small : budget ≤ most_frames
   pub counts : MatchOption (end_place h) (IsOpenCount h budget) (λ _. IsEndedCount h budget)
+
+-- the stand is that of the history, whose scene and places are kept beside it. That no axis has more separations than it
+-- may follows from what the stand's scenes were
+pub record IsBook (h : List Entry) (budget : ℕ) (stand : List Edit) (places : Places) (settled : Bool) : Type 0 where
+  pub stand_is : stand ≡ standing h
+  pub sound : AllSound empty_diagram stand
+  pub kept : IsKept h budget (scene_of stand) places settled

@@ -75,12 +75,14 @@ frame_lines scene f = certificate_lines X scene f.desired.x f.x ++ certificate_l
 -- the words of an act, and the lines below them
 abbrev pub act_words : Act → List Word
 act_words (act.Edit e) = edit_words e
+act_words act.Undo = codes "undo" ∷ []
 act_words (act.Frame f) = codes "frame" ∷ []
 act_words act.End = codes "end" ∷ []
 
 -- below a frame stand its lines, below every other act none
 abbrev pub lines_below : Diagram → Act → List (List Word)
 lines_below scene (act.Edit e) = []
+lines_below scene act.Undo = []
 lines_below scene (act.Frame f) = frame_lines scene f
 lines_below scene act.End = []
 
@@ -120,6 +122,7 @@ refusal_words (refusal.InUse by) = codes "inuse" ∷ by ∷ []
 refusal_words (refusal.Limit what count) = codes "limit" ∷ counted_word what ∷ decimal count ∷ []
 refusal_words (refusal.Infeasible axis walk) = codes "infeasible" ∷ axis_word axis ∷ map arc_word walk
 refusal_words (refusal.Ended place) = codes "ended" ∷ decimal place ∷ []
+refusal_words refusal.NothingToUndo = codes "nothing" ∷ []
 refusal_words refusal.Memory = []
 
 -- the words of a spot, in whole diagram units, X before Y: the corner of a shape, the axis and the place of a guideline,
@@ -138,6 +141,7 @@ reply_words (reply.Published place) = codes "published" ∷ decimal place ∷ []
 reply_words (reply.Refused r) = codes "refused" ∷ decimal r.front ∷ refusal_words r.refusal
 reply_words (reply.Idle front) = codes "idle" ∷ decimal front ∷ []
 reply_words (reply.Spent front) = codes "spent" ∷ decimal front ∷ []
+reply_words (reply.Stale front) = codes "stale" ∷ decimal front ∷ []
 reply_words (reply.Answer a) = spot_words a.spot ++ decimal a.front ∷ []
 
 -- for each line of a session its number, its command and its reply

@@ -1,11 +1,12 @@
 //! Where the item of a name stands.
-ghost use Rattle.std.specs.Prelude.{◌≡◌, ◌⊎◌, Some, IsSome, MatchResult, IfOk, IfErr, length};
+ghost use Rattle.std.specs.Prelude.{◌≡◌, ◌⊎◌, ◌<◌, ◌^◌, Some, IsSome, MatchResult, length};
 ghost use Rattle.units.specs.declared.geometry.Axis.TheVariants as axes;
 ghost use Rattle.scene_model.specs.declared.items.Sort.TheVariants as sort;
 ghost use Rattle.scene_model.specs.Names.{along};
 ghost use Rattle.scene_model.specs.Items.{item_named, sort_named};
 ghost use Rattle.scene_model.specs.Variables.{variables, variable_number};
-ghost use Rattle.doc_book.specs.History.{scene_at, places_at};
+ghost use Rattle.doc_book.specs.Calls.{IsAsked};
+ghost use Rattle.doc_book.specs.Legal.{IsLegal};
 ghost use Rattle.doc_book.specs.Spots.{IsPlaceOf, IsSpot, ask_refusal};
 
 use crate::book::Book;
@@ -49,10 +50,9 @@ impl Book {
     /// Where the item of this name stands at the present places. Unknown comes exactly where no item of the scene has the
     /// name, Kind exactly where it is the name of a link or compound. It takes no memory and changes nothing.
     pub fn ask(&self, name: &Name) -> Result<Answer, Refused>
-        ensures answered { IfOk result (λ answer. IsSpot (scene_at self.now.history) (places_at self.now.history) name.now answer.spot
-            × (answer.front ≡ length self.now.history)) }
-        ensures refused { IfErr result (λ r. (ask_refusal (scene_at self.now.history) name.now ≡ Some r.refusal)
-            × (r.front ≡ length self.now.history)) }
+        ensures answer { IsAsked self.now name.now result }
+        ensures legal { IsLegal self.now.history self.now.budget }
+        ensures short { length self.now.history < 2 ^ 32 }
     {
         let front = self.front();
         match spot_of(self.scene(), self.places(), name) {

@@ -5,7 +5,7 @@ ghost use Rattle.cycle_test.specs.Cycle.{IsPositiveCycle};
 ghost use Rattle.edit_rules.specs.Refusals.{most_separations};
 ghost use Rattle.edit_rules.specs.declared.refusals.Refusal.TheVariants as refusal;
 ghost use Rattle.doc_book.specs.Kept.{IsUncrowded};
-ghost use Rattle.axis_project.specs.Feasibility.{IsFeasibleAxis};
+ghost use Rattle.sep_gen.specs.Feasibility.{IsFeasibleAxis};
 ghost use Rattle.doc_book.specs.Verdicts.{IsFeasibility};
 
 use cycle_test::{Verdict, test};

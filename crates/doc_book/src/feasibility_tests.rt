@@ -1,7 +1,5 @@
 //! Edits that can be met and edits that can't: on which axis, and how many arcs the cycle has, of which so many are taken
 //! back. Each row has one positive cycle on that axis; expected values are by the sums of the gaps round it.
-ghost use Rattle.std.specs.Prelude.{◌≡◌, false, IfOk};
-ghost use Rattle.doc_book.specs.Verdicts.{is_link_edit};
 
 use crate::{Book, Refused};
 use edit_rules::{Edit, Refusal, Walk};
@@ -70,9 +68,7 @@ fn ranked(alloc: Global) -> Result<Members, Fail> {
     Ok(Members::of(Vec::from_slice(alloc, &names)?).ok_or("members")?)
 }
 
-fn apart(name: u8, axis: Axis, a: u8, b: u8, gap: i32, exact: bool) -> Result<Edit, Fail>
-    ensures { IfOk result (λ edit. is_link_edit edit ≡ false) }
-{
+fn apart(name: u8, axis: Axis, a: u8, b: u8, gap: i32, exact: bool) -> Result<Edit, Fail> {
     Ok(Edit::Apart {
         name: named(name)?,
         axis,
@@ -83,9 +79,7 @@ fn apart(name: u8, axis: Axis, a: u8, b: u8, gap: i32, exact: bool) -> Result<Ed
     })
 }
 
-fn edit_of(alloc: Global, step: Step) -> Result<Edit, Fail>
-    ensures { IfOk result (λ edit. is_link_edit edit ≡ false) }
-{
+fn edit_of(alloc: Global, step: Step) -> Result<Edit, Fail> {
     match step {
         Step::Box { name, x, w } => Ok(Edit::Put {
             name: named(name)?,
@@ -139,9 +133,7 @@ fn count_back(walk: &Walk) -> usize {
 }
 
 /// What the book answers to the edit.
-fn answer_to(alloc: Global, book: &mut Book, edit: Edit) -> Answered
-    requires { is_link_edit edit ≡ false }
-{
+fn answer_to(alloc: Global, book: &mut Book, edit: Edit) -> Answered {
     match book.edit(alloc, 1, 2, edit) {
         Ok(_) => Answered::Entered,
         Err(Refused { refusal, .. }) => match &refusal {

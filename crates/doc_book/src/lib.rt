@@ -3,24 +3,30 @@
 
 mod asking;
 mod book;
+mod drawing;
 mod editing;
 mod entries;
 mod feasibility;
 mod framing;
-mod law;
-mod laying;
+mod laws;
+mod looking;
+mod publishing;
 mod replies;
 mod scanning;
 
 pub use asking::{Answer, Spot};
 pub use book::{Book, MOST_FRAMES};
+pub use drawing::drawn_law;
 pub use editing::MOST_ENTRIES;
 pub use entries::{Act, Entry};
-pub use law::{feasible_law, verdict_law};
-pub use laying::{Finish, Laid, MOST_FINISHING};
+pub use laws::{feasible_law, play_law, run_law, undo_law, verdict_law};
+pub use looking::{Job, Look};
+pub use publishing::{Finish, MOST_FINISHING, Publish, Solved};
 pub use replies::{Refused, Reply};
 
 #[cfg(test)]
 mod feasibility_tests;
+#[cfg(test)]
+mod frame_tests;
 #[cfg(test)]
 mod tests;

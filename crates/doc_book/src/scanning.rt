@@ -8,7 +8,7 @@ fn is_end(entry: &Entry) -> bool
     ensures { result ≡ is_end entry.now }
 {
     match &entry.act {
-        Act::Edit(_) => false,
+        Act::Edit(_) | Act::Undo => false,
         Act::Frame(_) => false,
         Act::End => true,
     }
@@ -18,7 +18,7 @@ fn is_frame(entry: &Entry) -> bool
     ensures { result ≡ is_frame entry.now }
 {
     match &entry.act {
-        Act::Edit(_) => false,
+        Act::Edit(_) | Act::Undo => false,
         Act::Frame(_) => true,
         Act::End => false,
     }

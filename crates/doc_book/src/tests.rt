@@ -1,25 +1,19 @@
-//! What no clause says: with ample memory edits, frames and End are entered. Expected values are by the order of the
-//! causes: an edit is ended, then full, then refused by the scene; a layout is ending, spent, idle, else published. A
-//! shape that an edit moved stands at its new corner.
-ghost use Rattle.std.specs.Prelude.{◌≡◌, false, IsTrue, IsSome};
-ghost use Rattle.doc_book.specs.History.{end_place as place_of_end, scene_at};
-ghost use Rattle.doc_book.specs.Unconstrained.{IsUnconstrained};
-ghost use Rattle.doc_book.specs.Verdicts.{is_link_edit};
+//! What no clause says: with ample memory edits, undos, frames and End are entered. Expected values are by the order of the
+//! causes: an edit is ended, then full, then refused by the scene; a look is ending, spent, idle, else a job. A shape that
+//! an edit moved stands at its new corner, and where the edit is undone at the one before.
+ghost use Rattle.std.specs.Prelude.{IsTrue, IsSome};
+ghost use Rattle.doc_book.specs.History.{end_place as place_of_end};
 
-use crate::asking::spot_of;
 use crate::scanning::end_place;
-use crate::{Answer, Book, Finish, Laid, Refused, Spot};
-use edit_rules::{Counted, Edit, Refusal, apply, check, has_moves_left};
-use frame_store::{Places, carry};
-use scene_model::{Form, Scene, Sort};
+use crate::{Answer, Book, Finish, Look, Publish, Refused, Solved, Spot};
+use edit_rules::{Counted, Edit, Refusal};
+use scene_model::Form;
 use std::alloc::Global;
 use std::test::Fail;
 use units::{Axis, Name};
 
 /// A box of 10 by 10 at (x, 0).
-fn a_box(name: Name, x: i32) -> Edit
-    ensures { is_link_edit result ≡ false }
-{
+fn a_box(name: Name, x: i32) -> Edit {
     Edit::Put {
         name,
         form: Form::Box,
@@ -30,14 +24,55 @@ fn a_box(name: Name, x: i32) -> Edit
     }
 }
 
-/// Whether no compound, group or page stands, so that a frame can be made.
-fn is_free(book: &Book) -> bool
-    ensures { IsTrue result → IsUnconstrained (scene_at book.now.history) }
-{
-    let scene = book.scene();
-    scene.count(Sort::Compound) == 0
-        && scene.count(Sort::Group) == 0
-        && scene.count(Sort::Page) == 0
+/// What a look answers, or a publication of its frame.
+#[derive(Clone, Copy, Debug, PartialEq, Eq)]
+enum Laid {
+    Published { place: u32 },
+    Stale { front: u32, made: u32 },
+    Idle { front: u32 },
+    Spent { frames: u32, front: u32 },
+    Ending { place: u32, front: u32 },
+    Memory,
+}
+
+fn told(answer: Publish) -> Laid {
+    match answer {
+        Publish::Published { place } => Laid::Published { place },
+        Publish::Stale { front, back } => Laid::Stale {
+            front,
+            made: back.front(),
+        },
+        Publish::Memory { back: _ } => Laid::Memory,
+    }
+}
+
+/// Lays the document out once.
+#[tactic(auto, using(crate::proofs::Jobs::looked_job))]
+fn lay_out(alloc: Global, book: &mut Book, who: u8, line: u32) -> Laid {
+    match book.look(alloc) {
+        Look::Job(job) => {
+            let Ok(solved) = Solved::of(alloc, job) else {
+                return Laid::Memory;
+            };
+            return told(book.publish(alloc, who, line, solved));
+        }
+        Look::Idle { front } => return Laid::Idle { front },
+        Look::Spent { frames, front } => return Laid::Spent { frames, front },
+        Look::Ending { place, front } => return Laid::Ending { place, front },
+        Look::Memory => return Laid::Memory,
+    }
+}
+
+/// A worker makes a frame, an edit comes in between, and the frame comes too late.
+fn lay_out_late(alloc: Global, book: &mut Book, between: Edit) -> Laid {
+    let Look::Job(job) = book.look(alloc) else {
+        return Laid::Memory;
+    };
+    let Ok(solved) = Solved::of(alloc, job) else {
+        return Laid::Memory;
+    };
+    let _entered = book.edit(alloc, 1, 3, between);
+    told(book.publish(alloc, 11, 0, solved))
 }
 
 #[test]
@@ -67,50 +102,93 @@ fn frames_are_entered_until_none_is_wanted(rt: HostRuntime) -> Result<(), Fail> 
     let alloc = rt.alloc();
     let name = Name::of(b"a").ok_or("a name")?;
     let mut book = Book::new(alloc, 2);
-    assert!(rt; is_free(&book));
-    assert_eq!(rt; book.layout(alloc, 1, 2), Laid::Published { place: 0 });
-    assert!(rt; is_free(&book));
-    assert_eq!(rt; book.layout(alloc, 1, 3), Laid::Idle { front: 1 });
+    assert_eq!(rt;
+        lay_out(alloc, &mut book, 1, 2),
+        Laid::Published { place: 0 }
+    );
+    assert_eq!(rt; lay_out(alloc, &mut book, 1, 3), Laid::Idle { front: 1 });
     assert_eq!(rt; book.edit(alloc, 1, 4, a_box(name, 3)), Ok(1));
-    assert!(rt; is_free(&book));
-    assert_eq!(rt; book.layout(alloc, 1, 5), Laid::Published { place: 2 });
+    assert_eq!(rt;
+        lay_out(alloc, &mut book, 1, 5),
+        Laid::Published { place: 2 }
+    );
     let spent = Laid::Spent {
         frames: 2,
         front: 3,
     };
-    assert!(rt; is_free(&book));
-    assert_eq!(rt; book.layout(alloc, 1, 6), spent);
-    let _named: Option<Refusal> = None;
+    assert_eq!(rt; lay_out(alloc, &mut book, 1, 6), spent);
     Ok(())
 }
 
+// The box stands at 0, is moved to 30 and drawn there. Undone, the move leaves it at 0 again, and not where it was drawn.
 #[test]
-fn a_shape_is_asked_for(rt: HostRuntime) -> Result<(), Fail> {
+fn edits_are_undone(rt: HostRuntime) -> Result<(), Fail> {
     let alloc = rt.alloc();
     let name = Name::of(b"a").ok_or("a name")?;
     let mut book = Book::new(alloc, 64);
+    assert_eq!(rt; book.edit(alloc, 1, 2, a_box(name, 0)), Ok(0));
+    assert_eq!(rt;
+        book.edit(alloc, 1, 3, Edit::Move { name, x: 30, y: 0 }),
+        Ok(1)
+    );
+    assert_eq!(rt;
+        lay_out(alloc, &mut book, 1, 4),
+        Laid::Published { place: 2 }
+    );
+    assert_eq!(rt; book.undo(alloc, 1, 5), Ok(3));
+    let back = Answer {
+        spot: Spot::Shape { x: 0, y: 0 },
+        front: 4,
+    };
+    assert_eq!(rt; book.ask(&name), Ok(back));
+    assert_eq!(rt; book.undo(alloc, 1, 7), Ok(4));
     let unknown = Refused {
         refusal: Refusal::Unknown { name },
-        front: 0,
+        front: 5,
     };
     assert_eq!(rt; book.ask(&name), Err(unknown));
-    assert_eq!(rt; book.edit(alloc, 1, 2, a_box(name, 3)), Ok(0));
-    let made = Answer {
-        spot: Spot::Shape { x: 3, y: 0 },
-        front: 1,
+    let nothing = Refused {
+        refusal: Refusal::NothingToUndo,
+        front: 5,
     };
-    assert_eq!(rt; book.ask(&name), Ok(made));
-    let to = Edit::Move { name, x: -7, y: 5 };
-    assert_eq!(rt; book.edit(alloc, 1, 4, to), Ok(1));
-    let moved = Answer {
-        spot: Spot::Shape { x: -7, y: 5 },
-        front: 2,
-    };
-    assert_eq!(rt; book.ask(&name), Ok(moved));
+    assert_eq!(rt; book.undo(alloc, 1, 9), Err(nothing));
     Ok(())
 }
 
-// A shift moves a guideline, also without a frame.
+// An undo takes the last edit off, whoever made it.
+#[test]
+fn an_edit_of_another_is_undone(rt: HostRuntime) -> Result<(), Fail> {
+    let alloc = rt.alloc();
+    let name = Name::of(b"a").ok_or("a name")?;
+    let other = Name::of(b"b").ok_or("a name")?;
+    let mut book = Book::new(alloc, 64);
+    assert_eq!(rt; book.edit(alloc, 1, 2, a_box(name, 3)), Ok(0));
+    assert_eq!(rt; book.edit(alloc, 2, 3, a_box(other, 20)), Ok(1));
+    assert_eq!(rt; book.undo(alloc, 1, 4), Ok(2));
+    assert_eq!(rt; book.places().x.as_slice(), [3].as_slice());
+    Ok(())
+}
+
+// A worker's frame comes behind an edit, and its next one doesn't.
+#[test]
+fn a_late_frame_is_stale(rt: HostRuntime) -> Result<(), Fail> {
+    let alloc = rt.alloc();
+    let name = Name::of(b"a").ok_or("a name")?;
+    let mut book = Book::new(alloc, 64);
+    assert_eq!(rt; book.edit(alloc, 1, 2, a_box(name, 0)), Ok(0));
+    let stale = Laid::Stale { front: 2, made: 1 };
+    assert_eq!(rt;
+        lay_out_late(alloc, &mut book, Edit::Move { name, x: 5, y: 5 }),
+        stale
+    );
+    assert_eq!(rt;
+        lay_out(alloc, &mut book, 11, 0),
+        Laid::Published { place: 2 }
+    );
+    assert_eq!(rt; lay_out(alloc, &mut book, 11, 0), Laid::Idle { front: 3 });
+    Ok(())
+}
+
 #[test]
 fn a_guideline_is_asked_for(rt: HostRuntime) -> Result<(), Fail> {
     let alloc = rt.alloc();
@@ -128,48 +206,22 @@ fn a_guideline_is_asked_for(rt: HostRuntime) -> Result<(), Fail> {
     Ok(())
 }
 
-/// Applies an edit that the scene accepts.
-fn accepted(scene: &mut Scene, edit: Edit) -> Result<(), Fail> {
-    if check(scene, &edit).is_err() {
-        return Err("accepted".into());
-    }
-    if !has_moves_left(scene, &edit) {
-        return Err("moves are left".into());
-    }
-    apply(scene, edit)?;
-    Ok(())
-}
-
-/// Puts two boxes, and a link between them.
-fn link(scene: &mut Scene, a: Name, b: Name, name: Name) -> Result<(), Fail> {
-    accepted(scene, a_box(a, 0))?;
-    accepted(scene, a_box(b, 20))?;
-    accepted(scene, Edit::Join { name, a, b })
-}
-
-/// Whether a question for the item of this name is refused for its kind, where nothing was laid out yet.
-fn is_of_wrong_kind(alloc: Global, scene: &Scene, name: Name) -> Result<bool, Fail> {
-    let places = carry(alloc, &Scene::empty(alloc), scene, &Places::none(alloc))?;
-    Ok(spot_of(scene, &places, &name) == Err(Refusal::Kind { name }))
-}
-
-/// Links two boxes, and asks for the link.
-fn link_and_ask(alloc: Global, scene: &mut Scene) -> Result<(), Fail> {
-    let a = Name::of(b"a").ok_or("a name")?;
-    let b = Name::of(b"b").ok_or("a name")?;
-    let name = Name::of(b"l").ok_or("a name")?;
-    link(scene, a, b, name)?;
-    if !is_of_wrong_kind(alloc, scene, name)? {
-        return Err("a link has no place of its own".into());
-    }
-    Ok(())
-}
-
 #[test]
 fn a_link_is_asked_for(rt: HostRuntime) -> Result<(), Fail> {
     let alloc = rt.alloc();
-    let mut scene = Scene::empty(alloc);
-    link_and_ask(alloc, &mut scene)
+    let a = Name::of(b"a").ok_or("a name")?;
+    let b = Name::of(b"b").ok_or("a name")?;
+    let name = Name::of(b"l").ok_or("a name")?;
+    let mut book = Book::new(alloc, 64);
+    assert_eq!(rt; book.edit(alloc, 1, 2, a_box(a, 0)), Ok(0));
+    assert_eq!(rt; book.edit(alloc, 1, 3, a_box(b, 20)), Ok(1));
+    assert_eq!(rt; book.edit(alloc, 1, 4, Edit::Join { name, a, b }), Ok(2));
+    let kind = Refused {
+        refusal: Refusal::Kind { name },
+        front: 3,
+    };
+    assert_eq!(rt; book.ask(&name), Err(kind));
+    Ok(())
 }
 
 /// Whether the shape of this name can be held 19,999 times.
@@ -182,21 +234,17 @@ fn hold_often(book: &mut Book, alloc: Global, name: Name) -> bool {
     true
 }
 
-/// Whether an edit is refused since 20,000 entries stand.
-fn is_full(book: &mut Book, alloc: Global, edit: Edit) -> bool
-    requires { is_link_edit edit ≡ false }
-{
-    let full = Refused {
+fn full() -> Refused {
+    Refused {
         refusal: Refusal::Limit {
             what: Counted::Entries,
             count: 20_000,
         },
         front: 20_000,
-    };
-    book.edit(alloc, 1, 4, edit) == Err(full)
+    }
 }
 
-// One box and 19,999 edits stand. The limit comes before a name that is taken.
+// One box and 19,999 edits stand. The limit comes before a name that is taken, and an undo has it too.
 #[test]
 fn a_full_history_takes_no_edit(rt: HostRuntime) -> Result<(), Fail> {
     let alloc = rt.alloc();
@@ -204,8 +252,8 @@ fn a_full_history_takes_no_edit(rt: HostRuntime) -> Result<(), Fail> {
     let mut book = Book::new(alloc, 64);
     assert_eq!(rt; book.edit(alloc, 1, 2, a_box(name, 3)), Ok(0));
     assert!(rt; hold_often(&mut book, alloc, name));
-    assert!(rt; is_full(&mut book, alloc, Edit::Hold { name }));
-    assert!(rt; is_full(&mut book, alloc, a_box(name, 3)));
+    assert_eq!(rt; book.edit(alloc, 1, 4, a_box(name, 3)), Err(full()));
+    assert_eq!(rt; book.undo(alloc, 1, 5), Err(full()));
     Ok(())
 }
 
@@ -215,10 +263,16 @@ fn is_ended(book: &Book) -> bool
     end_place(book.history()).is_some()
 }
 
+// Ending comes before Spent: no frame is left in the budget.
 #[test]
 fn a_document_is_ended_and_finished(rt: HostRuntime) -> Result<(), Fail> {
     let alloc = rt.alloc();
-    let mut book = Book::new(alloc, 64);
+    let mut book = Book::new(alloc, 0);
+    let spent = Laid::Spent {
+        frames: 0,
+        front: 0,
+    };
+    assert_eq!(rt; lay_out(alloc, &mut book, 1, 2), spent);
     assert_eq!(rt; book.end(), Ok(0));
     let ended = Refused {
         refusal: Refusal::Ended { place: 0 },
@@ -226,13 +280,10 @@ fn a_document_is_ended_and_finished(rt: HostRuntime) -> Result<(), Fail> {
     };
     assert_eq!(rt; book.end(), Err(ended));
     let ending = Laid::Ending { place: 0, front: 1 };
-    assert!(rt; is_free(&book));
-    assert_eq!(rt; book.layout(alloc, 1, 2), ending);
+    assert_eq!(rt; lay_out(alloc, &mut book, 1, 3), ending);
     assert!(rt; is_ended(&book));
-    assert!(rt; is_free(&book));
     assert_eq!(rt; book.finish(alloc), Finish::Published { place: 1 });
     assert!(rt; is_ended(&book));
-    assert!(rt; is_free(&book));
     assert_eq!(rt; book.finish(alloc), Finish::Settled { place: 1 });
     Ok(())
 }

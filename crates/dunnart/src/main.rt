@@ -1,4 +1,5 @@
-//! The program: it reads an edit script from standard input and prints the listing of the document.
+//! The program: it reads an edit script from standard input and prints the listing of the document, its picture, or, of a made
+//! script, a summary.
 #![tactic(auto)]
 
 use standard_run::run_process;

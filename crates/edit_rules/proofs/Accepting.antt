@@ -324,21 +324,20 @@ sort_is_standing d n s at = sym (is_some-in d n all_sorts) ∙ by (item_named d 
     by (Some item) e = refl
 
 -- an item that an edit takes away is free to go
-taken_away : (d : Diagram) (k : Kind) (n : NameOf) → has_sort_of d k n ≡ true → ((t : Thing) → name_of_thing t ≡ n → is_sort_of k (sort_of t) ≡ true → IsFree d t) → IsSound d
-    → (stands d n ≡ true) × IsSound (without d n)
-taken_away d k n is free sound =
+free_found : (d : Diagram) (k : Kind) (n : NameOf) → has_sort_of d k n ≡ true → ((t : Thing) → name_of_thing t ≡ n → is_sort_of k (sort_of t) ≡ true → IsFree d t)
+    → (t : Thing) × (thing_named d n ≡ Some t) × IsFree d t
+free_found d k n is free =
     let x = sort_found d k n is in
     let t = whole d n x.0 x.1 in
-    let found = thing_found_is d n t.0 t.1 in
-    (sort_is_standing d n x.0 x.1, IsSound-without d n t.0 sound t.1 (free t.0 found.named (ap (is_sort_of k) (sym t.2) ∙ x.2)))
+    (t.0, t.1, free t.0 (thing_found_is d n t.0 t.1).named (ap (is_sort_of k) (sym t.2) ∙ x.2))
 
-pub remove_fits : (d : Diagram) (n : NameOf) → IsAccepted d (edit.Remove n) → IsSound d → (stands d n ≡ true) × IsSound (without d n)
-remove_fits d n ok sound =
+pub removed_free : (d : Diagram) (n : NameOf) → IsAccepted d (edit.Remove n) → (t : Thing) × (thing_named d n ≡ Some t) × IsFree d t
+removed_free d n ok =
     let none = unused d n (nothing refusal.InUse (user_of d n) ok.in_use) in
-    taken_away d kind.ShapeOrGuide n (asked d (edit.Remove n) kind.ShapeOrGuide n refl ok) (λ t named may. IsFree-unused d t (subst (IsUnused d) (sym named) none)) sound
+    free_found d kind.ShapeOrGuide n (asked d (edit.Remove n) kind.ShapeOrGuide n refl ok) (λ t named may. IsFree-unused d t (subst (IsUnused d) (sym named) none))
 
-pub unlink_fits : (d : Diagram) (n : NameOf) → IsAccepted d (edit.Unlink n) → IsSound d → (stands d n ≡ true) × IsSound (without d n)
-unlink_fits d n ok sound = taken_away d kind.Link n (asked d (edit.Unlink n) kind.Link n refl ok) free sound
+pub unlinked_free : (d : Diagram) (n : NameOf) → IsAccepted d (edit.Unlink n) → (t : Thing) × (thing_named d n ≡ Some t) × IsFree d t
+unlinked_free d n ok = free_found d kind.Link n (asked d (edit.Unlink n) kind.Link n refl ok) free
   where
     free : (t : Thing) → name_of_thing t ≡ n → is_sort_of kind.Link (sort_of t) ≡ true → IsFree d t
     free (thing.Shape s) named may = cc
@@ -348,8 +347,8 @@ unlink_fits d n ok sound = taken_away d kind.Link n (asked d (edit.Unlink n) kin
     free (thing.Group g) named may = tt
     free (thing.Page p) named may = tt
 
-pub drop_fits : (d : Diagram) (n : NameOf) → IsAccepted d (edit.Drop n) → IsSound d → (stands d n ≡ true) × IsSound (without d n)
-drop_fits d n ok sound = taken_away d kind.Constraint n (asked d (edit.Drop n) kind.Constraint n refl ok) free sound
+pub dropped_free : (d : Diagram) (n : NameOf) → IsAccepted d (edit.Drop n) → (t : Thing) × (thing_named d n ≡ Some t) × IsFree d t
+dropped_free d n ok = free_found d kind.Constraint n (asked d (edit.Drop n) kind.Constraint n refl ok) free
   where
     free : (t : Thing) → name_of_thing t ≡ n → is_sort_of kind.Constraint (sort_of t) ≡ true → IsFree d t
     free (thing.Shape s) named may = cc
@@ -358,6 +357,21 @@ drop_fits d n ok sound = taken_away d kind.Constraint n (asked d (edit.Drop n) k
     free (thing.Compound c) named may = tt
     free (thing.Group g) named may = tt
     free (thing.Page p) named may = tt
+
+-- so it stands, and the diagram is sound without it
+taken_away : (d : Diagram) (n : NameOf) → IsSound d → (t : Thing) × (thing_named d n ≡ Some t) × IsFree d t → (stands d n ≡ true) × IsSound (without d n)
+taken_away d n sound x =
+    let found = thing_found_is d n x.0 x.1 in
+    (sort_is_standing d n (sort_of x.0) (ap (option_map (λ (i : Item). i.sort)) found.item), IsSound-without d n x.0 sound x.1 x.2)
+
+pub remove_fits : (d : Diagram) (n : NameOf) → IsAccepted d (edit.Remove n) → IsSound d → (stands d n ≡ true) × IsSound (without d n)
+remove_fits d n ok sound = taken_away d n sound (removed_free d n ok)
+
+pub unlink_fits : (d : Diagram) (n : NameOf) → IsAccepted d (edit.Unlink n) → IsSound d → (stands d n ≡ true) × IsSound (without d n)
+unlink_fits d n ok sound = taken_away d n sound (unlinked_free d n ok)
+
+pub drop_fits : (d : Diagram) (n : NameOf) → IsAccepted d (edit.Drop n) → IsSound d → (stands d n ≡ true) × IsSound (without d n)
+drop_fits d n ok sound = taken_away d n sound (dropped_free d n ok)
 
 -- ---- parts of the list
 

@@ -250,6 +250,7 @@ module _ (d : Diagram) (e : Edit) where
   held (refusal.Limit counted.Entries count) at = absurd at
   held (refusal.Infeasible axis walk) at = absurd at
   held (refusal.Ended place) at = absurd at
+  held refusal.NothingToUndo at = absurd at
   held refusal.Memory at = absurd at
 
 -- ---- the first in the list, a part at a time

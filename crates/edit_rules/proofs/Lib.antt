@@ -6,3 +6,4 @@ pub mod Judging
 pub mod Keeping
 pub mod ListedNames
 pub mod Repeating
+pub mod Steadiness

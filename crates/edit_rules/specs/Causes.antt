@@ -90,8 +90,8 @@ IsPassed d e counted.Pages count = IsFull d e sort.Page count
 IsPassed d e counted.Seps count = IsCrowded d e count
 IsPassed d e counted.Entries count = ⊥
 
--- what a refusal says of a diagram and an edit. An axis that can't be met, a document that was ended and want of memory
--- are no causes of a diagram
+-- what a refusal says of a diagram and an edit. An axis that can't be met, a document that was ended, a document without
+-- an edit to take off and want of memory are no causes of a diagram
 abbrev pub Holds : Diagram → Edit → Refusal → Type 0
 Holds d e (refusal.Range value) = IsOutOfRange e value
 Holds d e (refusal.Unknown name) = IsUnknown d e name
@@ -102,6 +102,7 @@ Holds d e (refusal.InUse by) = IsInUse d e by
 Holds d e (refusal.Limit what count) = IsPassed d e what count
 Holds d e (refusal.Infeasible axis walk) = ⊥
 Holds d e (refusal.Ended place) = ⊥
+Holds d e refusal.NothingToUndo = ⊥
 Holds d e refusal.Memory = ⊥
 
 -- ---- the first
@@ -129,6 +130,7 @@ rank (refusal.InUse by) = 5
 rank (refusal.Limit what count) = limit_rank what
 rank (refusal.Infeasible axis walk) = 9
 rank (refusal.Ended place) = 9
+rank refusal.NothingToUndo = 9
 rank refusal.Memory = 9
 
 -- the diagram refuses the edit for this cause: it holds, and none that comes before it does

@@ -6,4 +6,5 @@ pub mod Moves
 pub mod Naming
 pub mod Ranges
 pub mod Refusals
+pub mod Steady
 pub mod Walks

@@ -14,6 +14,7 @@ mod refusals;
 mod repeats;
 mod sorts;
 mod standing;
+mod steady;
 mod walks;
 
 pub use applying::apply;
@@ -23,6 +24,7 @@ pub use crowding::separations_law;
 pub use edits::Edit;
 pub use moves::has_moves_left;
 pub use refusals::{Counted, Refusal};
+pub use steady::steady_law;
 pub use walks::Walk;
 
 #[cfg(test)]

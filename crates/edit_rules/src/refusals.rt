@@ -40,6 +40,8 @@ pub enum Refusal {
     Infeasible { axis: Axis, walk: Walk },
     /// The document was ended, by the entry at this place of the history.
     Ended { place: u32 },
+    /// No edit stands that an undo could take off.
+    NothingToUndo,
     /// Want of memory.
     Memory,
 }

@@ -1,4 +1,4 @@
-//! What no clause says: that with ample memory edits are copied and applied.
+//! What no clause says: that with ample memory edits are copied and applied; and which edits are steady.
 use crate::Edit;
 use crate::test_edits::{
     accepted, align, apart, expect, group, guide, join, members, name, page, put, rank, spread,
@@ -8,37 +8,42 @@ use std::alloc::Global;
 use std::test::Fail;
 use units::{Axis, Name, Pt};
 
-/// Fails where the copy of the edit isn't equal to it.
-fn copies(edit: Edit, alloc: Global) -> Result<(), Fail> {
+/// Fails where the copy of the edit isn't equal to it, or where whether it is steady isn't so.
+fn copies(edit: Edit, steady: bool, alloc: Global) -> Result<(), Fail> {
     let copy = edit.copy(alloc)?;
-    expect(copy == edit, "a copy")
+    expect(copy == edit, "a copy")?;
+    expect(edit.is_steady() == steady, "steady")
 }
 
 fn copies_changes(a: Name, alloc: Global) -> Result<(), Fail> {
     let name = a;
-    copies(Edit::Size { name, w: 7, h: 8 }, alloc)?;
-    copies(Edit::Move { name, x: 5, y: 6 }, alloc)?;
-    copies(Edit::Shift { name, at: -7 }, alloc)?;
-    copies(Edit::Hold { name }, alloc)?;
-    copies(Edit::Free { name }, alloc)?;
-    copies(Edit::Remove { name }, alloc)?;
-    copies(Edit::Unlink { name }, alloc)?;
-    copies(Edit::Drop { name }, alloc)
+    copies(Edit::Size { name, w: 7, h: 8 }, false, alloc)?;
+    copies(Edit::Move { name, x: 5, y: 6 }, true, alloc)?;
+    copies(Edit::Shift { name, at: -7 }, true, alloc)?;
+    copies(Edit::Hold { name }, true, alloc)?;
+    copies(Edit::Free { name }, true, alloc)?;
+    copies(Edit::Remove { name }, true, alloc)?;
+    copies(Edit::Unlink { name }, true, alloc)?;
+    copies(Edit::Drop { name }, true, alloc)
 }
 
 fn copies_plain_items(a: Name, b: Name, alloc: Global) -> Result<(), Fail> {
-    copies(put(a, 3, -4, 40, 20), alloc)?;
-    copies(guide(a, Axis::Y, 40), alloc)?;
-    copies(join(a, a, b), alloc)?;
-    copies(apart(a, Axis::Y, a, b, -3), alloc)?;
-    copies(page(a, -9, 8, 700, 600, 5), alloc)
+    copies(put(a, 3, -4, 40, 20), false, alloc)?;
+    copies(guide(a, Axis::Y, 40), false, alloc)?;
+    copies(join(a, a, b), true, alloc)?;
+    copies(apart(a, Axis::Y, a, b, -3), false, alloc)?;
+    copies(page(a, -9, 8, 700, 600, 5), false, alloc)
 }
 
 fn copies_rows(a: Name, b: Name, alloc: Global) -> Result<(), Fail> {
-    copies(align(a, b, members(alloc, &[a, b])?), alloc)?;
-    copies(spread(a, Axis::X, -3, members(alloc, &[b, a])?), alloc)?;
-    copies(rank(a, Axis::Y, 30, members(alloc, &[a])?), alloc)?;
-    copies(group(a, 15, members(alloc, &[b, a, b])?), alloc)
+    copies(align(a, b, members(alloc, &[a, b])?), false, alloc)?;
+    copies(
+        spread(a, Axis::X, -3, members(alloc, &[b, a])?),
+        false,
+        alloc,
+    )?;
+    copies(rank(a, Axis::Y, 30, members(alloc, &[a])?), false, alloc)?;
+    copies(group(a, 15, members(alloc, &[b, a, b])?), false, alloc)
 }
 
 /// Each of the 17 edits.

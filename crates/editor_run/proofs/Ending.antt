@@ -1,14 +1,14 @@
 -- A run that ends before anything was read or written.
-use Rattle.std.proofs.Common.{◌≡◌, Some, [], refl, sym, ◌∙◌, subst, inl, inr, arith}
+use Rattle.std.proofs.Common.{◌≡◌, Option, None, Some, [], refl, sym, ◌∙◌, subst, inl, inr, arith}
 use Rattle.std.specs.Prelude.{◌⊎◌}
 use Rattle.std.proofs.KnownBytes.{prepend_known-nil}
 use Rattle.script_text.specs.declared.faults.ScriptFault.{ScriptFault}
 use Rattle.editor_run.specs.declared.outcome.Outcome.{Outcome}
 use Rattle.editor_run.specs.declared.outcome.Fault.{Fault}
 use Rattle.editor_run.specs.declared.outcome.Fault.TheVariants as fault
-use Rattle.editor_run.specs.declared.plan.Plan.{Plan}
+use Rattle.command_line.specs.declared.plans.Plan.{Plan}
 use Rattle.editor_run.specs.Ends.{Reading, Writing}
-use Rattle.editor_run.specs.Input.{HasReadCauses}
+use Rattle.editor_run.specs.Input.{HasReadCauses, IsUnread}
 use Rattle.editor_run.specs.Outcomes.{failure, status_of}
 use Rattle.editor_run.specs.Runs.{IsRun, HasCauses}
 
@@ -25,13 +25,17 @@ words_early = record { no_script = λ x e. cc; no_source = λ e. cc; no_long = �
 pub memory_early : IsEarly fault.Memory
 memory_early = record { no_script = λ x e. cc; no_source = λ e. cc; no_long = λ e. cc; no_sink = λ e. cc }
 
--- nothing was read: no byte was given, and nothing failed
-pub record IsUnread (reading : Reading) : Type 0 where
-  pub left : reading.left_after ≡ reading.left_before
-  pub given : reading.given_after ≡ reading.given_before
-  pub faults : reading.faults_after ≡ reading.faults_before
+-- nothing failed as a script was made
+pub unread-HasReadCauses : (reading : Reading) → IsUnread reading → HasReadCauses reading None
+unread-HasReadCauses reading unread = record {
+  no_script = λ x e. absurd cc;
+  source_failed = λ e. absurd cc;
+  source_calm = inr unread.faults;
+  too_long = λ e. absurd cc;
+  within = inr ([], omega arith, record { told = sym unread.left ∙ sym (prepend_known-nil reading.left_after); counted = omega (arith, unread.given) });
+}
 
-early-HasReadCauses : (reading : Reading) (f : Fault) → IsEarly f → IsUnread reading → HasReadCauses reading (Some f)
+pub early-HasReadCauses : (reading : Reading) (f : Fault) → IsEarly f → IsUnread reading → HasReadCauses reading (Some f)
 early-HasReadCauses reading f early unread = record {
   no_script = λ x e. absurd (early.no_script x e);
   source_failed = λ e. absurd (early.no_source e);
@@ -71,5 +75,6 @@ early-IsRun plan reading writing f early = record {
   own_entries = tt;
   replies = tt;
   callers = tt;
+  order = tt;
   output = λ _. tt;
 }

@@ -1,9 +1,6 @@
 pub mod Ending
 pub mod Listed
 pub mod Shown
-pub mod Elements
-pub mod Later
-pub mod Lines
-pub mod Replying
+pub mod Counting
 pub mod Settling
 pub mod Together

@@ -1,6 +1,7 @@
 -- What a run owes at its ends once the script was played.
-use Rattle.std.proofs.Common.{◌≡◌, ◌≤◌, ℕ, List, length, Option, Some, None, refl, sym, subst, inl, inr, arith}
-use Rattle.std.specs.Prelude.{◌⊎◌, IfSome}
+use Rattle.std.proofs.Common.{◌≡◌, ◌≤◌, ℕ, List, length, Option, Some, None, Result, Err, refl, sym, ap, ◌∙◌, subst, inl, inr, arith}
+use Rattle.std.proofs.lemmas.Bool.{false≢true}
+use Rattle.std.specs.Prelude.{◌⊎◌, IfSome, IsOk, MatchOption}
 use Rattle.std.specs.Io.KnownBytes.{append_known}
 use Rattle.byte_edge.specs.Count.{HasRisen}
 use Rattle.byte_edge.specs.Taken.{TakesPart}
@@ -9,15 +10,15 @@ use Rattle.script_text.specs.declared.scripts.Line.{Line}
 use Rattle.script_text.specs.Scripts.{Spells}
 use Rattle.doc_book.specs.declared.replies.Reply.{Reply}
 use Rattle.doc_book.specs.Document.{Document}
-use Rattle.doc_book.specs.Listing.{listing_text}
+use Rattle.output_text.specs.Output.{output_text}
 use Rattle.editor_run.specs.declared.outcome.Outcome.{Outcome}
 use Rattle.editor_run.specs.declared.outcome.Fault.{Fault}
 use Rattle.editor_run.specs.declared.outcome.Fault.TheVariants as fault
-use Rattle.editor_run.specs.declared.plan.Plan.{Plan}
+use Rattle.command_line.specs.declared.plans.Plan.{Plan}
 use Rattle.editor_run.specs.Ends.{Reading, Writing}
-use Rattle.editor_run.specs.Input.{most_bytes, IsRead, HasReadCauses}
-use Rattle.editor_run.specs.Outcomes.{failure, ran}
-use Rattle.editor_run.specs.Played.{IsRightHistory, AreOwnEntries, HaveRightReplies, AreCallers}
+use Rattle.editor_run.specs.Input.{most_bytes, IsInput, HasReadCauses}
+use Rattle.editor_run.specs.Outcomes.{failure, ran, status_of}
+use Rattle.editor_run.specs.Played.{IsRightHistory, AreOwnEntries, HaveRightReplies, AreCallers, AreInFileOrder}
 use Rattle.editor_run.specs.Runs.{IsRun, HasCauses}
 use Rattle.editor_run.proofs.Ending.{memory_early, early-IsRun}
 
@@ -53,30 +54,32 @@ later reading cause read late = record {
   within = inr (other_holds (none≢some _) read.within);
 }
 
--- ---- a script that was read and played to the end of its document
+-- ---- a script that was read or made, and played to the end of its document
 
 pub record IsPlayed (plan : Plan) (reading : Reading) (script : List Line) (document : Document) (replies : List (List Reply)) : Type 0 where
-  pub read : IsRead reading script
+  pub input : IsInput plan reading script
   pub causes : HasReadCauses reading None
   pub history : IsRightHistory plan.frames document
   pub own_entries : AreOwnEntries document replies
   pub right : HaveRightReplies document script replies
   pub callers : AreCallers document.history replies
+  pub order : AreInFileOrder script replies
 
 module _ (plan : Plan) (reading : Reading) (writing : Writing) (outcome : Outcome)
     (script : List Line) (document : Document) (replies shown : List (List Reply)) (played : IsPlayed plan reading script document replies) (same : shown ≡ replies) where
-  -- the listing was written
+  -- the output was written
   pub success-IsRun : outcome ≡ ran script document replies None
-      → writing.put_after ≡ append_known writing.put_before (listing_text script document.history shown) → IsRun plan reading writing outcome
+      → writing.put_after ≡ append_known writing.put_before (output_text plan script document.history shown) → IsRun plan reading writing outcome
   success-IsRun is put = subst (IsRun plan reading writing) (sym is) (record {
     whole = λ _. (refl, refl);
     bare = inl (inl refl);
-    input = played.read;
+    input = played.input;
     history = played.history;
     own_entries = played.own_entries;
     replies = played.right;
     callers = played.callers;
-    output = λ _. subst (λ (rs : List (List Reply)). writing.put_after ≡ append_known writing.put_before (listing_text script document.history rs)) same put;
+    order = played.order;
+    output = λ _. subst (λ (rs : List (List Reply)). writing.put_after ≡ append_known writing.put_before (output_text plan script document.history rs)) same put;
   })
 
   pub success-HasCauses : (SinkKept : Type 0) → outcome ≡ ran script document replies None → writing.faults_after ≡ writing.faults_before → HasCauses plan reading writing SinkKept outcome
@@ -98,11 +101,12 @@ module _ (plan : Plan) (reading : Reading) (writing : Writing) (outcome : Outcom
   stopped-IsRun is = subst (IsRun plan reading writing) (sym is) (record {
     whole = λ _. (refl, refl);
     bare = inl (inr refl);
-    input = played.read;
+    input = played.input;
     history = played.history;
     own_entries = played.own_entries;
     replies = played.right;
     callers = played.callers;
+    order = played.order;
     output = λ e. absurd (none e);
   })
     where
@@ -110,13 +114,13 @@ module _ (plan : Plan) (reading : Reading) (writing : Writing) (outcome : Outcom
       none e = omega arith
 
   pub stopped-HasCauses : (SinkKept : Type 0) → outcome ≡ ran script document replies (Some fault.Sink) → HasRisen writing.faults_before writing.faults_after
-      → TakesPart writing.put_before writing.put_after (listing_text script document.history shown) → HasCauses plan reading writing SinkKept outcome
+      → TakesPart writing.put_before writing.put_after (output_text plan script document.history shown) → HasCauses plan reading writing SinkKept outcome
   stopped-HasCauses SinkKept is risen part = subst (HasCauses plan reading writing SinkKept) (sym is) (record {
     status = refl;
     reading_causes = later reading (Some fault.Sink) played.causes sink_late;
     sink_failed = λ _. risen;
     sink_calm = inl refl;
-    part = λ _. subst (λ (rs : List (List Reply)). TakesPart writing.put_before writing.put_after (listing_text script document.history rs)) same part;
+    part = λ _. subst (λ (rs : List (List Reply)). TakesPart writing.put_before writing.put_after (output_text plan script document.history rs)) same part;
     nothing_written = λ at. absurd (written at);
     no_memory = λ e. absurd cc;
   })
@@ -124,12 +128,12 @@ module _ (plan : Plan) (reading : Reading) (writing : Writing) (outcome : Outcom
       written : let n : ℕ = 6 in (n ≡ 2) ⊎ (n ≡ 3) ⊎ (n ≡ 4) ⊎ (n ≡ 7) → ⊥
       written at = omega arith
 
-  -- memory was wanting as the listing was written
+  -- memory was wanting as the output was written
   pub unwritten-IsRun : outcome ≡ failure fault.Memory → IsRun plan reading writing outcome
   unwritten-IsRun is = subst (IsRun plan reading writing) (sym is) (early-IsRun plan reading writing fault.Memory memory_early)
 
   pub unwritten-HasCauses : (SinkKept : Type 0) → outcome ≡ failure fault.Memory → writing.faults_after ≡ writing.faults_before
-      → TakesPart writing.put_before writing.put_after (listing_text script document.history shown) → HasCauses plan reading writing SinkKept outcome
+      → TakesPart writing.put_before writing.put_after (output_text plan script document.history shown) → HasCauses plan reading writing SinkKept outcome
   unwritten-HasCauses SinkKept is calm part = subst (HasCauses plan reading writing SinkKept) (sym is) (record {
     status = refl;
     reading_causes = later reading (Some fault.Memory) played.causes memory_late;
@@ -141,18 +145,44 @@ module _ (plan : Plan) (reading : Reading) (writing : Writing) (outcome : Outcom
       script = script;
       document = document;
       replies = replies;
-      read = played.read;
+      input = played.input;
       history = played.history;
       right = played.right;
-      part = subst (λ (rs : List (List Reply)). TakesPart writing.put_before writing.put_after (listing_text script document.history rs)) same part;
+      part = subst (λ (rs : List (List Reply)). TakesPart writing.put_before writing.put_after (output_text plan script document.history rs)) same part;
     });
   })
     where
       written : let n : ℕ = 5 in (n ≡ 2) ⊎ (n ≡ 3) ⊎ (n ≡ 4) ⊎ (n ≡ 7) → ⊥
       written at = omega arith
 
--- success and want of memory are the two ends of a run that nothing is in the way of
-pub where_told : (left : Option (List ℕ)) (outcome : Outcome) → (outcome.status ≡ 0) ⊎ (outcome.status ≡ 5)
-    → IfSome left (λ bytes. length bytes ≤ most_bytes → (script : List Line) → Spells bytes script → (outcome.status ≡ 0) ⊎ (outcome.status ≡ 5))
-where_told None outcome ends = tt
-where_told (Some bytes) outcome ends = λ _ script _. ends
+-- success and want of memory are the two ends of a run that nothing is in the way of, with a made script or a read one
+module _ (Calm : Type 0) (left : Option (List ℕ)) where
+  -- where a script is made, or the bytes spell one, this holds
+  abbrev WhereAny : Option ℕ → Type 0 → Type 0
+  WhereAny made P = MatchOption made (Calm → IfSome left (λ bytes. length bytes ≤ most_bytes → (script : List Line) → Spells bytes script → P)) (λ _. P)
+
+  where_told : (bytes : Option (List ℕ)) (P : Type 0) → P → IfSome bytes (λ bs. length bs ≤ most_bytes → (script : List Line) → Spells bs script → P)
+  where_told None P holds = tt
+  where_told (Some bs) P holds = λ _ script _. holds
+
+  weaker_told : (bytes : Option (List ℕ)) (P Q : Type 0) → (P → Q) → IfSome bytes (λ bs. length bs ≤ most_bytes → (script : List Line) → Spells bs script → P)
+      → IfSome bytes (λ bs. length bs ≤ most_bytes → (script : List Line) → Spells bs script → Q)
+  weaker_told None P Q weaker told = tt
+  weaker_told (Some bs) P Q weaker told = λ few script spelled. weaker (told few script spelled)
+
+  pub where_given : (made : Option ℕ) (P : Type 0) → P → WhereAny made P
+  where_given None P holds = λ _. where_told left P holds
+  where_given (Some number) P holds = holds
+
+  pub weaker_given : (made : Option ℕ) (P Q : Type 0) → (P → Q) → WhereAny made P → WhereAny made Q
+  weaker_given None P Q weaker given = λ calm. weaker_told left P Q weaker (given calm)
+  weaker_given (Some number) P Q weaker given = weaker given
+
+-- a run without a script ends for want of memory, where that is its fault
+pub memory_ends : (f : Fault) (outcome : Outcome) → outcome ≡ failure f → let r : Result (List Line) Fault = Err f in IsOk r ⊎ (r ≡ Err fault.Memory)
+    → (outcome.status ≡ 0) ⊎ (outcome.status ≡ 5)
+memory_ends f outcome is (inl ok) = absurd (false≢true ok)
+memory_ends f outcome is (inr same) = inr (ap (λ (o : Outcome). o.status) is ∙ ap status_of (memory same))
+  where
+    memory : let r : Result (List Line) Fault = Err f in r ≡ Err fault.Memory → f ≡ fault.Memory
+    memory e = cc

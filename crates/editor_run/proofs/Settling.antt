@@ -6,19 +6,16 @@ use Rattle.std.proofs.lemmas.List.{length-append, append-nil, take-append-le}
 use Rattle.std.proofs.Math.Seq.{take-length}
 use Rattle.std.proofs.lemmas.Bool.{cases_lt, false≢true}
 use Rattle.std.specs.Option.{is_some}
-use Rattle.edit_rules.specs.declared.edits.Edit.{Edit}
-use Rattle.edit_rules.specs.Effects.{scene_of}
 use Rattle.doc_book.specs.declared.entries.Entry.{Entry}
 use Rattle.doc_book.specs.declared.entries.Act.{Act}
 use Rattle.doc_book.specs.declared.entries.Act.TheVariants as act
 use Rattle.doc_book.specs.Document.{Document}
 use Rattle.doc_book.specs.Finished.{IsFinished, IsFinishing}
 use Rattle.doc_book.specs.Legal.{most_finishing}
-use Rattle.doc_book.specs.History.{end_place, after_end, is_end, is_end_act, is_frame_act, edits_after, standing, scene_at, IsSettled}
-use Rattle.doc_book.specs.Unconstrained.{IsUnconstrained}
-use Rattle.doc_book.proofs.Growing.{scene_at-push, end_place-push_none, end_place-push_some, after_end-push_some}
+use Rattle.doc_book.specs.History.{end_place, after_end, is_end, is_end_act, is_frame_act, IsSettled}
+use Rattle.doc_book.proofs.Growing.{end_place-push_none, end_place-push_some, after_end-push_some}
 use Rattle.editor_run.specs.Finishing.{GrowsOnce, GrowsByFinishing}
-use Rattle.editor_run.proofs.Elements.{all-push}
+use Rattle.session_run.proofs.Elements.{all-push}
 
 -- a history behind a start that was just ended, with finishing frames alone, of which none but the last may settle it
 pub record FinishesFrom (start h : Document) : Type 0 where
@@ -26,7 +23,6 @@ pub record FinishesFrom (start h : Document) : Type 0 where
   pub ended : IsSome (end_place h.history)
   pub behind : after_end h.history ≡ grows.more
   pub few : length grows.more ≤ most_finishing
-  pub free : IsUnconstrained (scene_at h.history)
   pub unsettled : (n : ℕ) → n < length h.history → 0 < length (after_end (take n h.history)) → IsSettled (take n h.history) → ⊥
 
 none≢some : (k : ℕ) → None ≡ Some k → ⊥
@@ -38,14 +34,9 @@ take-nil (suc n) = refl
 
 frame_not_end : (a : Act) → is_frame_act a ≡ true → is_end_act a ≡ false
 frame_not_end (act.Edit e) h = cc
+frame_not_end act.Undo h = cc
 frame_not_end (act.Frame f) h = refl
 frame_not_end act.End h = cc
-
--- a frame leaves the edits that stand
-frame_keeps : (edits : List Edit) (a : Act) → is_frame_act a ≡ true → edits_after edits a ≡ edits
-frame_keeps edits (act.Edit e) h = cc
-frame_keeps edits (act.Frame f) h = refl
-frame_keeps edits act.End h = cc
 
 some_of : {A : Type 0} (o : Option A) → IsSome o → (x : A) × (o ≡ Some x)
 some_of None s = absurd (false≢true s)
@@ -72,13 +63,12 @@ after_end-take (e ∷ es) (suc n) none = by (is_end e) none (λ rest. after_end-
     by true none rest = ap (λ (es : List Entry). take n es) none ∙ take-nil n
     by false none rest = rest none
 
-pub FinishesFrom-start : (d : Document) → IsSome (end_place d.history) → after_end d.history ≡ [] → IsUnconstrained (scene_at d.history) → FinishesFrom d d
-FinishesFrom-start d ended none free = record {
+pub FinishesFrom-start : (d : Document) → IsSome (end_place d.history) → after_end d.history ≡ [] → FinishesFrom d d
+FinishesFrom-start d ended none = record {
   grows = record { more = []; finishing = tt; grown = sym (append-nil d.history); budget = refl };
   ended = ended;
   behind = none;
   few = omega arith;
-  free = free;
   unsettled = λ n below some settled. absurd (omega (arith, some, ap length (after_end-take d.history n none)));
 }
 
@@ -96,7 +86,6 @@ FinishesFrom-once start d d' f g =
       ended = is_some_of (end_place d'.history) place.0 (ap end_place g.grown ∙ end_place-push_some d.history g.frame place.0 place.1);
       behind = ap after_end g.grown ∙ (after_end-push_some d.history g.frame place.0 place.1 ∙ ap (λ h. h ++ g.frame ∷ []) f.behind);
       few = omega (arith, g.room, ap length f.behind, longer);
-      free = subst IsUnconstrained (sym (ap scene_at g.grown ∙ (scene_at-push d.history g.frame ∙ ap scene_of (frame_keeps (standing d.history) g.frame.act g.finishing.frame)))) f.free;
       unsettled = λ n below some settled. by n (cases_lt n (length d.history)) below some settled;
     }
   where

@@ -8,7 +8,8 @@ use Rattle.doc_book.specs.Listing.{session_lines}
 use Rattle.doc_book.specs.Replies.{AreRightReplies}
 use Rattle.listing_text.specs.Replies.{SessionsHaveReplies, ScriptHasReplies}
 use Rattle.listing_text.proofs.RightReplies.{have_replies}
-use Rattle.editor_run.specs.Played.{ForSessions, HaveRightReplies}
+use Rattle.session_run.specs.Sessions.{ForSessions}
+use Rattle.editor_run.specs.Played.{HaveRightReplies}
 
 sessions_have : (h : List Entry) (budget : ℕ) (script : List Line) (session : ℕ) (lists : List (List Reply))
     → ForSessions session (λ s rs. AreRightReplies h budget s 0 (session_lines s script) rs) lists → SessionsHaveReplies session script lists

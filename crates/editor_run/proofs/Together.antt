@@ -6,29 +6,24 @@ use Rattle.std.specs.Prelude.{replicate}
 use Rattle.std.specs.List.{AllByRecursion}
 use Rattle.std.proofs.Math.Seq.{take-append_seam, drop-append_seam}
 use Rattle.script_text.specs.declared.scripts.Line.{Line}
-use Rattle.script_text.specs.Scripts.{AreLines}
 use Rattle.doc_book.specs.declared.entries.Entry.{Entry}
 use Rattle.doc_book.specs.declared.entries.Act.TheVariants as act
 use Rattle.doc_book.specs.declared.replies.Reply.{Reply}
 use Rattle.doc_book.specs.Document.{Document}
-use Rattle.doc_book.specs.Finished.{IsFinishing}
+use Rattle.doc_book.specs.Finished.{IsFinished, IsFinishing}
+use Rattle.doc_book.specs.Legal.{IsLegal}
 use Rattle.doc_book.specs.Growing.{entry_of}
-use Rattle.doc_book.specs.History.{end_place, after_end, is_end, scene_at}
+use Rattle.doc_book.specs.History.{end_place, after_end, is_end}
 use Rattle.doc_book.specs.Listing.{session_lines}
 use Rattle.doc_book.specs.Replies.{AreRightReplies, OwnEntriesAre, after_of}
-use Rattle.doc_book.specs.Unconstrained.{IsUnconstrained}
-use Rattle.doc_book.proofs.Growing.{scene_at-push, end_place-push_end, end_place-push_some, after_end-push_end}
+use Rattle.doc_book.proofs.Growing.{end_place-push_end, end_place-push_some, after_end-push_end}
 use Rattle.editor_run.specs.Finishing.{GrowsByFinishing}
-use Rattle.editor_run.specs.Played.{ForSessions, AreOwnEntries, HaveRightReplies, AreCallers}
-use Rattle.editor_run.specs.Progress.{HasReplies, HasPlayed, IsSessionLine, IsSessionEntry}
-use Rattle.editor_run.proofs.Elements.{all-then}
-use Rattle.editor_run.proofs.Later.{AreRightReplies-append, OwnEntriesAre-append_run}
-use Rattle.editor_run.proofs.Lines.{ForSessions-then}
-
--- the lines of a script are of sessions 1 to 8, and of commands that are built
-pub of_sessions : (number : ℕ) (lines : List Line) → AreLines number lines → AllByRecursion IsSessionLine lines
-of_sessions number [] are = tt
-of_sessions number (l ∷ ls) are = ((are.0.session.0, omega (arith, are.0.session.1), are.0.command.built), of_sessions (number + 1) ls are.1)
+use Rattle.doc_book.proofs.Later.{AreRightReplies-append, OwnEntriesAre-append_run}
+use Rattle.session_run.specs.Sessions.{ForSessions}
+use Rattle.session_run.proofs.Elements.{all-then}
+use Rattle.session_run.proofs.Lists.{ForSessions-then}
+use Rattle.editor_run.specs.Played.{IsRightHistory, AreOwnEntries, HaveRightReplies, AreCallers, AreInFileOrder}
+use Rattle.editor_run.proofs.Counting.{HasReplies, HasPlayed, IsSessionEntry}
 
 -- a history of session entries wasn't ended
 pub not_ended_by : (h : List Entry) → AllByRecursion IsSessionEntry h → end_place h ≡ None
@@ -94,11 +89,6 @@ ended_place d0 d1 lines lists p ended = ap (λ (d : Document). end_place d.histo
 pub ended_last : (d0 d1 : Document) (lines : List Line) (lists : List (List Reply)) → HasPlayed d0 lines lists → d1 ≡ ended_now d0 → after_end d1.history ≡ []
 ended_last d0 d1 lines lists p ended = ap (λ (d : Document). after_end d.history) ended ∙ after_end-push_end d0.history (entry_of 0 0 act.End) (not_ended_by d0.history p.entries) refl
 
--- no compound, group or page stands
-pub ended_free : (d0 d1 : Document) (lines : List Line) (lists : List (List Reply)) → HasPlayed d0 lines lists → d1 ≡ ended_now d0 → IsUnconstrained (scene_at d1.history)
-ended_free d0 d1 lines lists p ended =
-    subst IsUnconstrained (sym (ap (λ (d : Document). scene_at d.history) ended ∙ scene_at-push d0.history (entry_of 0 0 act.End))) p.free
-
 pub finished_own : (d0 d1 d2 : Document) (lines : List Line) (lists all : List (List Reply)) → HasPlayed d0 lines lists → d1 ≡ ended_now d0 → GrowsByFinishing d1 d2
     → all ≡ lists → AreOwnEntries d2 all
 finished_own d0 d1 d2 lines lists all p ended g same =
@@ -123,10 +113,11 @@ finished_callers d0 d1 d2 lines lists all p ended g same =
     subst (AreCallers d2.history) (sym same)
     (subst (λ h. AreCallers h lists) (sym (whole_history d0 d1 d2 ended g)) (callers_whole d0 lines lists g.more p g.finishing))
 
--- one list more without replies
-pub lists-push : (n : ℕ) (lists : List (List Reply)) → lists ≡ replicate n [] → lists ++ [] ∷ [] ≡ replicate (suc n) []
-lists-push n lists are = ap (λ ls. ls ++ [] ∷ []) are ∙ grown n
-  where
-    grown : (n : ℕ) → replicate {A = List Reply} n [] ++ [] ∷ [] ≡ replicate (suc n) []
-    grown zero = refl
-    grown (suc n) = ap (λ ls. [] ∷ ls) (grown n)
+pub finished_history : (budget : ℕ) (d0 d1 d2 : Document) → d0.budget ≡ budget → d1 ≡ ended_now d0 → GrowsByFinishing d1 d2 → IsLegal d2.history d2.budget → IsFinished d2.history
+    → IsRightHistory budget d2
+finished_history budget d0 d1 d2 is ended g legal finished =
+    let same : d2.budget ≡ budget = g.budget ∙ ap (λ (d : Document). d.budget) ended ∙ is in
+    record { budget_is = same; legal = subst (λ (b : ℕ). IsLegal d2.history b) same legal; finished = finished }
+
+pub finished_order : (lines : List Line) (lists all : List (List Reply)) → AreInFileOrder lines lists → all ≡ lists → AreInFileOrder lines all
+finished_order lines lists all order same = subst (AreInFileOrder lines) (sym same) order

@@ -1,5 +1,6 @@
--- Reading a script: what is known of its bytes, where the source tells them, and why it fails.
-use Rattle.std.specs.Prelude.{◌≡◌, ◌⊎◌, ◌≤◌, ℕ, List, length, Option, Some, IfSome}
+-- The script of a run: what is known of its bytes, where it is read and the source tells them, and why reading fails; or the
+-- made script.
+use Rattle.std.specs.Prelude.{◌≡◌, ◌⊎◌, ◌≤◌, ℕ, List, length, Option, Some, IfSome, MatchOption}
 use Rattle.std.specs.Io.KnownBytes.{IsAtEnd}
 use Rattle.byte_edge.specs.Count.{HasRisen}
 use Rattle.byte_edge.specs.Given.{GivesPast, GivesWithin}
@@ -7,6 +8,8 @@ use Rattle.script_text.specs.declared.scripts.Line.{Line}
 use Rattle.script_text.specs.declared.faults.ScriptFault.{ScriptFault}
 use Rattle.script_text.specs.Scripts.{Spells}
 use Rattle.script_text.specs.Faults.{IsFault}
+use Rattle.command_line.specs.declared.plans.Plan.{Plan}
+use Rattle.made_script.specs.Made.{made_lines}
 use Rattle.editor_run.specs.declared.outcome.Fault.{Fault}
 use Rattle.editor_run.specs.declared.outcome.Fault.TheVariants as fault
 use Rattle.editor_run.specs.Ends.{Reading}
@@ -27,6 +30,16 @@ HasFault left found = IfSome left (λ bytes. IsFault bytes found)
 pub record IsRead (reading : Reading) (script : List Line) : Type 0 where
   pub spelled : SpelledBy reading.left_before script
   pub end : IsAtEnd reading.left_after
+
+-- nothing was read: no byte was given, and nothing failed
+pub record IsUnread (reading : Reading) : Type 0 where
+  pub left : reading.left_after ≡ reading.left_before
+  pub given : reading.given_after ≡ reading.given_before
+  pub faults : reading.faults_after ≡ reading.faults_before
+
+-- the script of a plan: the made one of its number, and then nothing was read; where it has none, the one that the source gave
+abbrev pub IsInput : Plan → Reading → List Line → Type 0
+IsInput plan reading script = MatchOption plan.made (IsRead reading script) (λ number. IsUnread reading × (script ≡ made_lines number))
 
 -- the source was read to its end, and its bytes spell no script: the fault is theirs
 pub record IsFaulty (reading : Reading) (found : ScriptFault) : Type 0 where
@@ -58,3 +71,7 @@ pub record HasReadCauses (reading : Reading) (cause : Option Fault) : Type 0 whe
 abbrev pub WhereSpelled : Reading → Type 0 → Type 0
 WhereSpelled reading P = ¬ HasRisen reading.faults_before reading.faults_after
     → IfSome reading.left_before (λ bytes. length bytes ≤ most_bytes → (script : List Line) → Spells bytes script → P)
+
+-- where a script is made, or one is spelled that may be read, this holds
+abbrev pub WhereGiven : Plan → Reading → Type 0 → Type 0
+WhereGiven plan reading P = MatchOption plan.made (WhereSpelled reading P) (λ _. P)

@@ -3,5 +3,4 @@ pub mod Finishing
 pub mod Input
 pub mod Outcomes
 pub mod Played
-pub mod Progress
 pub mod Runs

@@ -1,5 +1,5 @@
 -- A script that was played to the end of its document.
-use Rattle.std.specs.Prelude.{◌≡◌, ℕ, ◌+◌, ◌≤◌, List, [], ◌∷◌, length, take, drop, Some, ⊤}
+use Rattle.std.specs.Prelude.{◌≡◌, ℕ, ◌≤◌, List, length, take, drop, Some}
 use Rattle.std.specs.List.{AllByRecursion}
 use Rattle.script_text.specs.declared.scripts.Line.{Line}
 use Rattle.script_text.specs.Scripts.{last_session}
@@ -10,12 +10,9 @@ use Rattle.doc_book.specs.Finished.{IsFinished}
 use Rattle.doc_book.specs.History.{end_place}
 use Rattle.doc_book.specs.Legal.{IsLegal}
 use Rattle.doc_book.specs.Listing.{session_lines}
+use Rattle.doc_book.specs.Plays.{AreCounted, IsFresh}
 use Rattle.doc_book.specs.Replies.{AreRightReplies, OwnEntriesAre, after_of}
-
--- a fact of each session and its replies, for further sessions from one on
-abbrev pub ForSessions : ℕ → (ℕ → List Reply → Type 0) → List (List Reply) → Type 0
-ForSessions session P [] = ⊤
-ForSessions session P (rs ∷ more) = P session rs × ForSessions (session + 1) P more
+use Rattle.session_run.specs.Sessions.{ForSessions, AreBySession}
 
 -- the history is legal by the budget, and is finished
 pub record IsRightHistory (budget : ℕ) (document : Document) : Type 0 where
@@ -39,3 +36,13 @@ pub record AreCallers (history : List Entry) (replies : List (List Reply)) : Typ
   pub sessions : AllByRecursion (λ (e : Entry). (1 ≤ e.who) × (e.who ≤ last_session)) (take place history)
   pub run : AllByRecursion (λ (e : Entry). e.who ≡ 0) (drop place history)
   pub before_end : AllByRecursion (AllByRecursion (λ (r : Reply). after_of r ≤ place)) replies
+
+-- the lines were played in file order, over all sessions: there is one list of replies, one for each line of the script,
+-- which by session are these. Each was given at as many entries as there are lines before it that were accepted or
+-- published, whosever they are, and none is stale
+pub record AreInFileOrder (script : List Line) (replies : List (List Reply)) : Type 0 where
+  pub all : List Reply
+  pub one_each : length all ≡ length script
+  pub by_session : AreBySession script all replies
+  pub counted : AreCounted 0 all
+  pub fresh : AllByRecursion IsFresh all

@@ -2,8 +2,7 @@
 ghost use Rattle.std.specs.Prelude.{◌≡◌, ◌⊎◌, ◌<◌, ◌≤◌, ◌++◌, ◌∷◌, [], List, Ok, true, false, length, IsSome, OnOk};
 ghost use Rattle.std.specs.List.{AllByRecursion};
 ghost use Rattle.doc_book.specs.Finished.{IsFinished, IsFinishing};
-ghost use Rattle.doc_book.specs.History.{end_place, after_end, scene_at, IsSettled};
-ghost use Rattle.doc_book.specs.Unconstrained.{IsUnconstrained};
+ghost use Rattle.doc_book.specs.History.{end_place, after_end, IsSettled};
 ghost use Rattle.editor_run.specs.Finishing.{GrowsOnce, IsDone, GrowsByFinishing};
 
 use doc_book::{Book, Finish};
@@ -13,7 +12,6 @@ use units::Memory;
 /// One step: whether a frame was entered.
 fn finish_once(alloc: Global, book: &mut Book) -> Result<bool, Memory>
     requires ended { IsSome (end_place book.old.history) }
-    requires free { IsUnconstrained (scene_at book.old.history) }
     ensures more { result ≡ Ok true → GrowsOnce book.old book.new }
     ensures done { result ≡ Ok false → IsDone book.old book.new }
 {
@@ -29,7 +27,6 @@ fn finish_once(alloc: Global, book: &mut Book) -> Result<bool, Memory>
 pub fn finish_all(alloc: Global, book: &mut Book) -> Result<(), Memory>
     requires ended { IsSome (end_place book.old.history) }
     requires last { after_end book.old.history ≡ [] }
-    requires free { IsUnconstrained (scene_at book.old.history) }
     ensures finished { OnOk result (IsFinished book.new.history) }
     ensures grown { OnOk result (GrowsByFinishing book.old book.new) }
 {

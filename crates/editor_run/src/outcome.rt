@@ -5,7 +5,7 @@ use byte_edge::ReadStop;
 use doc_book::{Book, Reply};
 use script_text::{ReadFault, Script, ScriptFault};
 use thiserror::Error;
-use units::Sequence;
+use units::{Memory, Sequence};
 
 /// Why a run failed.
 #[derive(Clone, Copy, Debug, PartialEq, Eq, Error)]
@@ -59,6 +59,16 @@ impl From<ReadStop> for Fault {
             ReadStop::TooLong => Fault::Long,
             ReadStop::Memory => Fault::Memory,
         }
+    }
+}
+
+impl From<Memory> for Fault {
+    ghost use Rattle.editor_run.specs.declared.outcome.Fault.TheVariants as fault_value;
+
+    ghost from_gives = { λ memory fault. fault ≡ fault_value.Memory };
+
+    fn from(_: Memory) -> Self {
+        Fault::Memory
     }
 }
 

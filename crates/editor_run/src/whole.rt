@@ -4,12 +4,12 @@ ghost use Rattle.doc_book.specs.declared.entries.Act.TheVariants as act;
 ghost use Rattle.doc_book.specs.Growing.{entry_of};
 ghost use Rattle.doc_book.specs.History.{end_place};
 ghost use Rattle.doc_book.specs.Legal.{most_frames};
-ghost use Rattle.editor_run.specs.Played.{IsRightHistory, AreOwnEntries, HaveRightReplies, AreCallers};
+ghost use Rattle.editor_run.specs.Played.{IsRightHistory, AreOwnEntries, HaveRightReplies, AreCallers, AreInFileOrder};
 
 use crate::finishing::finish_all;
-use crate::playing::play_lines;
 use doc_book::{Book, Reply};
 use script_text::Script;
+use session_run::play_alone;
 use std::alloc::Global;
 use units::{Memory, Sequence};
 
@@ -20,19 +20,21 @@ pub struct Played {
     pub replies: Sequence<Sequence<Reply>>,
 }
 
-/// Plays the lines of a script in order, ends the document and finishes it.
+/// Plays the lines of a script in file order, ends the document and finishes it.
 pub fn play_whole(alloc: Global, frames: u32, script: &Script) -> Result<Played, Memory>
     requires { frames ≤ most_frames }
     ensures history { IfOk result (λ p. IsRightHistory frames p.book) }
     ensures own_entries { IfOk result (λ p. AreOwnEntries p.book p.replies) }
     ensures replies { IfOk result (λ p. HaveRightReplies p.book script.now p.replies) }
     ensures callers { IfOk result (λ p. AreCallers p.book.history p.replies) }
+    ensures order { IfOk result (λ p. AreInFileOrder script.now p.replies) }
 {
+    // The lines, and the history below, are asked for what their types keep, which the proof needs.
+    let _lines = script.lines();
     let mut book = Book::new(alloc, frames);
-    let lists = play_lines(alloc, &mut book, script.lines())?;
+    let lists = play_alone(alloc, &mut book, script)?;
     end(&mut book)?;
     finish_all(alloc, &mut book)?;
-    // Asked for what its type keeps, which the proof needs.
     let _legal = book.history();
     Ok(Played {
         book,

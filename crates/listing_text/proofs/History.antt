@@ -1,15 +1,14 @@
 -- The entries of a history, from left to right.
 use Rattle.std.proofs.Common.{◌≡◌, ℕ, ℤ, ◌+◌, ◌<◌, ◌≤◌, ◌^◌, List, [], ◌∷◌, ◌++◌, length, take, drop, get_or, refl, sym, ap, subst, ◌∙◌, arith}
-use Rattle.std.proofs.lemmas.List.{length-take}
 use Rattle.units.specs.declared.geometry.Axis.{Axis}
 use Rattle.units.specs.declared.geometry.Axis.TheVariants.{X, Y}
 use Rattle.edit_rules.specs.declared.edits.Edit.{Edit}
 use Rattle.edit_rules.specs.Effects.{scene_of}
 use Rattle.scene_model.specs.Diagram.{Diagram}
 use Rattle.multiplier_check.specs.declared.certificate.Certificate.{Certificate}
-use Rattle.doc_book.proofs.Growing.{scene_at-push, scene_of-push}
-use Rattle.doc_book.proofs.Keeping.{few_moves_at}
-use Rattle.doc_book.proofs.Refusing.{accepted, scene_accepts}
+use Rattle.doc_book.proofs.Feasible.{standing-push}
+use Rattle.doc_book.proofs.Keeping.{standing-short}
+use Rattle.doc_book.proofs.Refusing.{open-not_full, not_closed, scene_accepts}
 use Rattle.doc_book.specs.declared.entries.Entry.{Entry}
 use Rattle.doc_book.specs.declared.entries.Act.{Act}
 use Rattle.doc_book.specs.declared.entries.Act.TheVariants as act
@@ -17,34 +16,27 @@ use Rattle.doc_book.specs.History.{scene_at, standing, edits_after}
 use Rattle.doc_book.specs.Legal.{ActMayFollow, AllMayFollow}
 use Rattle.doc_book.specs.Listing.{text_lines, lines_of, entry_lines}
 use Rattle.axis_project.specs.Projection.{IsShown}
-use Rattle.listing_text.specs.Steps.{scene_after, IsAccepting, HasPlaces, IsPlacing}
+use Rattle.listing_text.specs.Steps.{IsAccepting, HasPlaces, IsPlacing}
 use Rattle.listing_text.proofs.Elements.{rest_of, front_of}
 use Rattle.listing_text.proofs.Lines.{text_lines-append}
 
--- ---- the scene
-
--- the scene of the standing edits after an act
-scene_of_after : (edits : List Edit) (a : Act) → scene_of (edits_after edits a) ≡ scene_after (scene_of edits) a
-scene_of_after edits (act.Edit e) = scene_of-push edits e
-scene_of_after edits (act.Frame f) = refl
-scene_of_after edits act.End = refl
-
--- the scene after one more entry
-pub scene_after-push : (h : List Entry) (e : Entry) → scene_at (h ++ e ∷ []) ≡ scene_after (scene_at h) e.act
-scene_after-push h e = scene_at-push h e ∙ scene_of_after (standing h) e.act
-
 -- ---- what may follow
 
-accepts : (h : List Entry) (budget : ℕ) (e : Entry) (a : Act) → length h ≤ 4294967294 → ActMayFollow h budget e a → IsAccepting (scene_at h) a
-accepts h budget e (act.Edit edit) short may = (scene_accepts h edit (accepted h edit may.1).0, few_moves_at h 4294967294 short)
-accepts h budget e (act.Frame f) short may = tt
-accepts h budget e act.End short may = tt
+accepts : (h : List Entry) (budget : ℕ) (e : Entry) (a : Act) → ActMayFollow h budget e a → IsAccepting (standing h) a
+accepts h budget e (act.Edit edit) may =
+    let short = standing-short h in
+    let few = open-not_full h (not_closed h edit may) in
+    ((scene_accepts h edit may).causes, omega arith)
+accepts h budget e act.Undo may = tt
+accepts h budget e (act.Frame f) may = tt
+accepts h budget e act.End may = tt
 
 has_places : (scene : Diagram) (axis : Axis) (desired : List ℤ) (certificate : Certificate) → IsShown scene axis desired certificate → HasPlaces scene axis desired certificate
 has_places scene axis desired certificate is = record { wanted = is.projects.as_long; placed = is.shown.form.places_as_long ∙ is.projects.as_long }
 
 placing : (h : List Entry) (budget : ℕ) (e : Entry) (a : Act) → ActMayFollow h budget e a → IsPlacing (scene_at h) a
 placing h budget e (act.Edit edit) may = tt
+placing h budget e act.Undo may = tt
 placing h budget e (act.Frame f) may = (has_places (scene_at h) X f.desired.x f.x may.1.on_x, has_places (scene_at h) Y f.desired.y f.y may.1.on_y)
 placing h budget e act.End may = tt
 
@@ -64,17 +56,17 @@ module _ (h : List Entry) (k : ℕ) (e : Entry) (lt : k < length h) (is : e ≡ 
       ∙ text_lines-append (lines_of (scene_at (take k h)) k e) (entry_lines (take k h ++ e ∷ []) (k + 1) (drop (k + 1) h))
       ∙ ap (λ before. text_lines (lines_of (scene_at (take k h)) k e) ++ text_lines (entry_lines before (k + 1) (drop (k + 1) h))) front
 
-  pub entry_put : (scene : Diagram) → scene ≡ scene_at (take k h) → text_lines (entry_lines (take k h) k (drop k h))
-      ≡ text_lines (lines_of scene k e) ++ text_lines (entry_lines (take (k + 1) h) (k + 1) (drop (k + 1) h))
-  entry_put scene of = entries_step ∙ ap (λ s. text_lines (lines_of s k e) ++ text_lines (entry_lines (take (k + 1) h) (k + 1) (drop (k + 1) h))) (sym of)
+  pub entry_put : (edits : List Edit) → edits ≡ standing (take k h) → text_lines (entry_lines (take k h) k (drop k h))
+      ≡ text_lines (lines_of (scene_of edits) k e) ++ text_lines (entry_lines (take (k + 1) h) (k + 1) (drop (k + 1) h))
+  entry_put edits of = entries_step ∙ ap (λ es. text_lines (lines_of (scene_of es) k e) ++ text_lines (entry_lines (take (k + 1) h) (k + 1) (drop (k + 1) h))) (sym of)
 
-  pub scene_step : scene_at (take (k + 1) h) ≡ scene_after (scene_at (take k h)) e.act
-  scene_step = ap scene_at (sym front) ∙ scene_after-push (take k h) e
+  pub edits_step : standing (take (k + 1) h) ≡ edits_after (standing (take k h)) e.act
+  edits_step = ap standing (sym front) ∙ standing-push (take k h) e
 
-  pub legal_here : (budget : ℕ) → length h < 2 ^ 32 → AllMayFollow (take k h) budget (drop k h) → IsAccepting (scene_at (take k h)) e.act
-  legal_here budget short legal =
+  pub legal_here : (budget : ℕ) → AllMayFollow (take k h) budget (drop k h) → IsAccepting (standing (take k h)) e.act
+  legal_here budget legal =
       let all : AllMayFollow (take k h) budget (e ∷ drop (k + 1) h) = subst (λ es. AllMayFollow (take k h) budget es) rest legal in
-      accepts (take k h) budget e e.act (omega (arith, length-take k h, lt, short)) all.0
+      accepts (take k h) budget e e.act all.0
 
   pub placing_here : (budget : ℕ) → AllMayFollow (take k h) budget (drop k h) → IsPlacing (scene_at (take k h)) e.act
   placing_here budget legal =

@@ -19,6 +19,7 @@ use Rattle.doc_book.specs.declared.entries.Entry.{Entry}
 use Rattle.doc_book.specs.declared.entries.Act.TheVariants as act
 use Rattle.doc_book.specs.declared.replies.Reply.{Reply}
 use Rattle.doc_book.specs.declared.replies.Reply.TheVariants as reply
+use Rattle.doc_book.specs.declared.replies.Refused.{Refused}
 use Rattle.doc_book.specs.declared.asking.Spot.TheVariants as spot
 use Rattle.doc_book.specs.Listing.{text_lines, certificate_lines, refusal_words, reply_words, listing_text}
 
@@ -64,6 +65,27 @@ first_box : listing_text script history replies
     ≡ codes "listing 1\n0 1 2 box a 3 4 40 20\n1 1 3 frame\nx a 3 3\ny a 4 4\n2 0 0 end\n3 0 0 frame\nx a 3 3\ny a 4 4\nreplies\n1 2 box a 3 4 40 20 = accepted 0\n1 3 layout = published 1\n1 4 layout = idle 2\ndone\n"
 unfolding digits edited
 first_box = refl
+
+abbrev asks_undo : ℕ → Line
+asks_undo number = record { number = number; session = 1; command = command.Undo }
+
+abbrev undo_script : List Line
+undo_script = record { number = 2; session = 1; command = command.Edit a_box } ∷ asks_undo 3 ∷ asks_undo 4 ∷ record { number = 5; session = 1; command = command.Layout } ∷ []
+
+abbrev undo_history : List Entry
+undo_history = record { who = 1; line = 2; act = act.Edit a_box } ∷ record { who = 1; line = 3; act = act.Undo } ∷ end ∷ finishing nothing ∷ []
+
+abbrev nothing_left : Refused
+nothing_left = record { refusal = refusal.NothingToUndo; front = 2 }
+
+abbrev undo_replies : List (List Reply)
+undo_replies = (reply.Accepted 0 ∷ reply.Accepted 1 ∷ reply.Refused nothing_left ∷ reply.Stale 2 ∷ []) ∷ [] ∷ [] ∷ [] ∷ [] ∷ [] ∷ [] ∷ [] ∷ []
+
+-- a box that is undone, an undo with nothing left, and a frame that came too late: the last frame has no variable
+undo : listing_text undo_script undo_history undo_replies
+    ≡ codes "listing 1\n0 1 2 box a 3 4 40 20\n1 1 3 undo\n2 0 0 end\n3 0 0 frame\nreplies\n1 2 box a 3 4 40 20 = accepted 0\n1 3 undo = accepted 1\n1 4 undo = refused 2 nothing\n1 5 layout = stale 2\ndone\n"
+unfolding digits edited
+undo = refl
 
 -- ---- where items stand, and refusals
 

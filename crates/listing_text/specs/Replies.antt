@@ -15,6 +15,7 @@ HasText (reply.Published place) = ⊤
 HasText (reply.Refused r) = r.refusal ≡ refusal.Memory → ⊥
 HasText (reply.Idle front) = ⊤
 HasText (reply.Spent front) = ⊤
+HasText (reply.Stale front) = ⊤
 HasText (reply.Answer a) = ⊤
 
 -- lines have a reply each, and each reply has a text

@@ -1,9 +1,11 @@
 //! The lines of the entries of a history.
-ghost use Rattle.std.specs.Prelude.{◌≡◌, ◌<◌, ◌^◌, ◌∷◌, ◌++◌, [], ℕ, decimal, length, IfOk, OnOk};
+ghost use Rattle.std.specs.Prelude.{◌≡◌, ◌∷◌, ◌++◌, [], ℕ, decimal, IfOk, OnOk};
+ghost use Rattle.edit_rules.specs.Effects.{scene_of};
+ghost use Rattle.doc_book.specs.History.{edits_after};
 ghost use Rattle.doc_book.specs.Legal.{IsLegal};
 ghost use Rattle.doc_book.specs.Listing.{act_words, text_line, text_lines, lines_of, entry_lines};
 ghost use Rattle.script_text.specs.Words.{behind};
-ghost use Rattle.listing_text.specs.Steps.{scene_after, IsAccepting, IsPlacing};
+ghost use Rattle.listing_text.specs.Steps.{IsAccepting, IsPlacing};
 ghost use Rattle.listing_text.specs.Putting.{Puts};
 
 use crate::frames::add_lines_below;
@@ -11,10 +13,10 @@ use crate::putting::put;
 use crate::words::{add_count, add_word, begin_with};
 use byte_edge::{Sink, SinkStop};
 use doc_book::{Act, Entry};
-use edit_rules::apply;
 use scene_model::Scene;
 use script_text::edit_text;
 use std::alloc::Global;
+use undo_store::Stand;
 use units::Memory;
 
 /// Adds the words of an act.
@@ -24,6 +26,7 @@ fn add_act(alloc: Global, text: &mut Vec<u8>, act: &Act) -> Result<(), Memory>
 {
     match act {
         Act::Edit(edit) => add_word(text, &edit_text(alloc, edit)?)?,
+        Act::Undo => add_word(text, b"undo")?,
         Act::Frame(_) => add_word(text, b"frame")?,
         Act::End => add_word(text, b"end")?,
     }
@@ -54,49 +57,53 @@ fn entry_text(alloc: Global, scene: &Scene, place: usize, entry: &Entry) -> Resu
     Ok(text)
 }
 
-/// Takes the scene on, behind the act.
-fn advance(alloc: Global, scene: &mut Scene, act: &Act) -> Result<(), Memory>
-    requires { IsAccepting scene.old act.now }
-    ensures { OnOk result (scene.new ≡ scene_after scene.old act.now) }
+/// Takes the standing edits on, behind the act.
+fn advance(alloc: Global, stand: &mut Stand, act: &Act) -> Result<(), Memory>
+    requires { IsAccepting stand.old act.now }
+    ensures { OnOk result (stand.new ≡ edits_after stand.old act.now) }
 {
     match act {
-        Act::Edit(edit) => apply(scene, edit.copy(alloc)?),
+        Act::Edit(edit) => stand.push(alloc, edit.copy(alloc)?),
+        Act::Undo => {
+            stand.undo(alloc)?;
+            Ok(())
+        }
         Act::Frame(_) => Ok(()),
         Act::End => Ok(()),
     }
 }
 
-/// The lines of the entry at a place. It takes the scene on, behind the entry.
+/// The lines of the entry at a place. It takes the standing edits on, behind the entry.
 fn next_text(
     alloc: Global,
-    scene: &mut Scene,
+    stand: &mut Stand,
     place: usize,
     entry: &Entry,
 ) -> Result<Vec<u8>, Memory>
-    requires accepting { IsAccepting scene.old entry.now.act }
-    requires placing { IsPlacing scene.old entry.now.act }
-    ensures text { IfOk result (λ text. text.items ≡ text_lines (lines_of scene.old place entry.now)) }
-    ensures scene { OnOk result (scene.new ≡ scene_after scene.old entry.now.act) }
+    requires accepting { IsAccepting stand.old entry.now.act }
+    requires placing { IsPlacing (scene_of stand.old) entry.now.act }
+    ensures text { IfOk result (λ text. text.items ≡ text_lines (lines_of (scene_of stand.old) place entry.now)) }
+    ensures edits { OnOk result (stand.new ≡ edits_after stand.old entry.now.act) }
 {
-    let text = entry_text(alloc, scene, place, entry)?;
-    advance(alloc, scene, &entry.act)?;
+    let text = entry_text(alloc, stand.scene(), place, entry)?;
+    advance(alloc, stand, &entry.act)?;
     Ok(text)
 }
 
-/// Puts the lines of the entry at a place. It takes the scene on, behind the entry.
+/// Puts the lines of the entry at a place. It takes the standing edits on, behind the entry.
 fn put_entry<K: Sink>(
     alloc: Global,
-    scene: &mut Scene,
+    stand: &mut Stand,
     place: usize,
     entry: &Entry,
     sink: &mut K,
 ) -> Result<(), SinkStop>
-    requires accepting { IsAccepting scene.old entry.now.act }
-    requires placing { IsPlacing scene.old entry.now.act }
-    ensures puts { Puts (K.put sink.old) (K.put sink.new) (K.faults sink.old) (K.faults sink.new) (text_lines (lines_of scene.old place entry.now)) result }
-    ensures scene { OnOk result (scene.new ≡ scene_after scene.old entry.now.act) }
+    requires accepting { IsAccepting stand.old entry.now.act }
+    requires placing { IsPlacing (scene_of stand.old) entry.now.act }
+    ensures puts { Puts (K.put sink.old) (K.put sink.new) (K.faults sink.old) (K.faults sink.new) (text_lines (lines_of (scene_of stand.old) place entry.now)) result }
+    ensures edits { OnOk result (stand.new ≡ edits_after stand.old entry.now.act) }
 {
-    let Ok(text) = next_text(alloc, scene, place, entry) else {
+    let Ok(text) = next_text(alloc, stand, place, entry) else {
         return Err(SinkStop::Memory);
     };
     put(sink, &text)
@@ -104,13 +111,12 @@ fn put_entry<K: Sink>(
 
 /// Puts the lines of the entries of a legal history.
 pub fn put_entries<K: Sink>(alloc: Global, history: &[Entry], sink: &mut K) -> Result<(), SinkStop>
-    requires legal { (budget : ℕ) × IsLegal history.now budget }
-    requires short { length history.now < 2 ^ 32 }
+    requires { (budget : ℕ) × IsLegal history.now budget }
     ensures { Puts (K.put sink.old) (K.put sink.new) (K.faults sink.old) (K.faults sink.new) (text_lines (entry_lines [] 0 history.now)) result }
 {
-    let mut scene = Scene::empty(alloc);
+    let mut stand = Stand::new(alloc);
     for place in 0..history.len() {
-        put_entry(alloc, &mut scene, place, &history[place], sink)?;
+        put_entry(alloc, &mut stand, place, &history[place], sink)?;
     }
     Ok(())
 }

@@ -141,6 +141,7 @@ pub fn add_lines_below(text: &mut Vec<u8>, scene: &Scene, act: &Act) -> Result<(
     match act {
         Act::Frame(frame) => add_frame(text, scene, frame),
         Act::Edit(_) => Ok(()),
+        Act::Undo => Ok(()),
         Act::End => Ok(()),
     }
 }

@@ -73,6 +73,7 @@ fn add_refusal(text: &mut Vec<u8>, refusal: &Refusal) -> Result<(), AllocError>
             add_word(text, b"ended")?;
             add_count(text, *place)
         }
+        Refusal::NothingToUndo => add_word(text, b"nothing"),
         Refusal::Memory => Ok(()),
     }
 }
@@ -163,6 +164,7 @@ fn add_reply(text: &mut Vec<u8>, reply: &Reply) -> Result<(), AllocError>
         }
         Reply::Idle { front } => add_counted(text, b"idle", *front),
         Reply::Spent { front } => add_counted(text, b"spent", *front),
+        Reply::Stale { front } => add_counted(text, b"stale", *front),
         Reply::Answer(answer) => add_answer(text, *answer),
     }
 }

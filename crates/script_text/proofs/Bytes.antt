@@ -6,9 +6,7 @@ use Rattle.std.specs.Fmt.{signed_decimal}
 use Rattle.std.specs.Str.{all_ascii_digits}
 use Rattle.std.proofs.lemmas.Bool.{and_parts, and_from, or_cases, le-leb, leb-true, ne_eqb, eqb-true, both_ways}
 use Rattle.std.proofs.lemmas.Slice.Eq.{bytes_eq-Decides}
-use Rattle.script_text.specs.Grammar.{choice_words}
-use Rattle.script_text.specs.declared.slots.Choice.{Choice}
-use Rattle.script_text.specs.declared.slots.Choice.TheVariants as choice
+use Rattle.script_text.specs.Grammar.{Choice, AxisChoice, AlignLineChoice, ExactnessChoice, StiffnessChoice, choice_words}
 use Rattle.std.proofs.lemmas.List.Elements.{All-from_recursion}
 use Rattle.units.specs.Name.{is_name, is_name_byte, is_letter, is_digit}
 use Rattle.script_text.specs.declared.scripts.Command.{Command}
@@ -98,10 +96,10 @@ any_above (v ∷ table) w h e =
     ]
 
 choices_above : (c : Choice) → all_above (choice_words c)
-choices_above choice.Axis = (refl, (refl, tt))
-choices_above choice.AlignLine = (refl, (refl, (refl, tt)))
-choices_above choice.Exactness = (refl, (refl, tt))
-choices_above choice.Stiffness = (refl, (refl, tt))
+choices_above AxisChoice = (refl, (refl, tt))
+choices_above AlignLineChoice = (refl, (refl, (refl, tt)))
+choices_above ExactnessChoice = (refl, (refl, tt))
+choices_above StiffnessChoice = (refl, (refl, tt))
 
 names_above : (ms rest : List Word) → AreNames ms → all_above rest → all_above (ms ++ rest)
 names_above [] rest h g = g
@@ -118,12 +116,8 @@ all_lack : (by : ℕ) → by < 45 → (ws : List Word) → all_above ws → AllL
 all_lack by lt [] h = tt
 all_lack by lt (w ∷ ws) h = (All-from_recursion (λ b. eqb b by ≡ false) w (lacks by lt w h.0), all_lack by lt ws h.1)
 
--- the word of a command and the words of fields
-pub words_lack : (by : ℕ) → by < 45 → (k : Keyword) (fs : List Field) → AreFields fs → AllLack by (keyword_word k ∷ fields_words fs)
-words_lack by lt k fs h = all_lack by lt (keyword_word k ∷ fields_words fs) (keyword_above k, fields_above fs h)
-
 pub command_lacks : (by : ℕ) → by < 45 → (c : Command) → IsCommand c → AllLack by (command_words c)
-command_lacks by lt c h = words_lack by lt (command_keyword c) (command_fields c) h.fields
+command_lacks by lt c h = all_lack by lt (command_words c) (keyword_above (command_keyword c), fields_above (command_fields c) h.fields)
 
 append_rec : (a b : List ℕ) → AllByRecursion (λ c. eqb c 10 ≡ false) a → AllByRecursion (λ c. eqb c 10 ≡ false) b → AllByRecursion (λ c. eqb c 10 ≡ false) (a ++ b)
 append_rec [] b h g = g

@@ -13,7 +13,7 @@ use Rattle.script_text.specs.declared.scripts.Command.TheVariants as command
 use Rattle.script_text.specs.declared.scripts.Line.{Line}
 use Rattle.script_text.specs.Words.{spaced}
 use Rattle.script_text.specs.Numbers.{number_of}
-use Rattle.script_text.specs.Commands.{edit_words, command_words, IsCommand}
+use Rattle.script_text.specs.Commands.{edit_words, command_words}
 use Rattle.script_text.specs.declared.faults.FaultKind.TheVariants as kind
 use Rattle.script_text.specs.declared.faults.ScriptFault.{ScriptFault}
 use Rattle.script_text.specs.Pieces.{pieces}
@@ -29,6 +29,10 @@ first_box = edit.Put (codes "a") form.Box (pos 3) (pos 4) (pos 40) (pos 20)
 abbrev far_box : Edit
 far_box = edit.Put (codes "b_2") form.Box (negsuc 999999) (pos 0) (pos 10000) (pos 1)
 
+-- an alignment of two shapes
+abbrev two_aligned : Edit
+two_aligned = edit.Align (codes "c") (codes "g") align_line.Mid (codes "a" ∷ codes "b" ∷ [])
+
 text_of_first_box : spaced (edit_words first_box) ≡ codes "box a 3 4 40 20"
 unfolding digits
 text_of_first_box = refl
@@ -41,11 +45,14 @@ text_of_guide : spaced (edit_words (edit.Guide (codes "g") axis.X (pos 200))) �
 unfolding digits
 text_of_guide = refl
 
-text_of_align : spaced (edit_words (edit.Align (codes "c") (codes "g") align_line.Mid (codes "a" ∷ codes "b" ∷ []))) ≡ codes "align c g mid a b"
+text_of_align : spaced (edit_words two_aligned) ≡ codes "align c g mid a b"
 text_of_align = refl
 
 text_of_where : spaced (command_words (command.Where (codes "g"))) ≡ codes "where g"
 text_of_where = refl
+
+text_of_undo : spaced (command_words command.Undo) ≡ codes "undo"
+text_of_undo = refl
 
 text_of_layout : spaced (command_words command.Layout) ≡ codes "layout"
 text_of_layout = refl
@@ -55,23 +62,27 @@ line n c = record { number = n; session = 1; command = c }
 
 box_line : IsLine 2 (line 2 (command.Edit first_box))
 unfolding digits
-box_line = record { numbered = refl; session = (omega arith, omega arith); command = record { built = refl; fields = (refl, (leb-true _ _ refl, (leb-true _ _ refl, (leb-true _ _ refl, (leb-true _ _ refl, tt))))) }; short = leb-true _ _ refl }
+box_line = record { numbered = refl; session = (omega arith, omega arith); command = record { fields = (refl, (leb-true _ _ refl, (leb-true _ _ refl, (leb-true _ _ refl, (leb-true _ _ refl, tt))))) }; short = leb-true _ _ refl }
 
 layout_line : (n : ℕ) → IsLine n (line n command.Layout)
 unfolding digits
-layout_line n = record { numbered = refl; session = (omega arith, omega arith); command = record { built = refl; fields = tt }; short = leb-true _ _ refl }
+layout_line n = record { numbered = refl; session = (omega arith, omega arith); command = record { fields = tt }; short = leb-true _ _ refl }
+
+undo_line : (n : ℕ) → IsLine n (line n command.Undo)
+unfolding digits
+undo_line n = record { numbered = refl; session = (omega arith, omega arith); command = record { fields = tt }; short = leb-true _ _ refl }
+
+align_line_2 : IsLine 2 (line 2 (command.Edit two_aligned))
+unfolding digits
+align_line_2 = record { numbered = refl; session = (omega arith, omega arith); command = record { fields = (refl, (refl, (refl, ((omega arith, (refl, (refl, tt))), tt)))) }; short = leb-true _ _ refl }
 
 guide_line : IsLine 2 (line 2 (command.Edit (edit.Guide (codes "g") axis.X (pos 200))))
 unfolding digits
-guide_line = record { numbered = refl; session = (omega arith, omega arith); command = record { built = refl; fields = (refl, (refl, (leb-true _ _ refl, tt))) }; short = leb-true _ _ refl }
+guide_line = record { numbered = refl; session = (omega arith, omega arith); command = record { fields = (refl, (refl, (leb-true _ _ refl, tt))) }; short = leb-true _ _ refl }
 
 where_line : IsLine 3 (line 3 (command.Where (codes "g")))
 unfolding digits
-where_line = record { numbered = refl; session = (omega arith, omega arith); command = record { built = refl; fields = (refl, tt) }; short = leb-true _ _ refl }
-
--- a command that the program doesn't have
-no_link : IsCommand (command.Edit (edit.Join (codes "l") (codes "a") (codes "b"))) → ⊥
-no_link c = let b = c.built in absurd cc
+where_line = record { numbered = refl; session = (omega arith, omega arith); command = record { fields = (refl, tt) }; short = leb-true _ _ refl }
 
 -- a box and two layouts
 spells_first_box : Spells (codes "dunnart 1\n1 box a 3 4 40 20\n1 layout\n1 layout\nend\n") (line 2 (command.Edit first_box) ∷ line 3 command.Layout ∷ line 4 command.Layout ∷ [])
@@ -82,6 +93,11 @@ spells_first_box = record { script = record { few = omega arith; are = (box_line
 spells_guide : Spells (codes "dunnart 1\n1 guide g x 200\n1 where g\nend\n") (line 2 (command.Edit (edit.Guide (codes "g") axis.X (pos 200))) ∷ line 3 (command.Where (codes "g")) ∷ [])
 unfolding digits
 spells_guide = record { script = record { few = omega arith; are = (guide_line, (where_line, tt)) }; text = refl }
+
+-- members, and an undo
+spells_align : Spells (codes "dunnart 1\n1 align c g mid a b\n1 undo\nend\n") (line 2 (command.Edit two_aligned) ∷ line 3 command.Undo ∷ [])
+unfolding digits
+spells_align = record { script = record { few = omega arith; are = (align_line_2, (undo_line 3, tt)) }; text = refl }
 
 -- no command
 spells_empty : Spells (codes "dunnart 1\nend\n") []
@@ -131,14 +147,11 @@ no_session = faulty_2 (codes "dunnart 1\nlayout\nend\n") (codes "layout" ∷ cod
 no_command : IsFault (codes "dunnart 1\n1 bax a 3 4 40 20\nend\n") (fault_at 2 kind.Command)
 no_command = faulty_2 (codes "dunnart 1\n1 bax a 3 4 40 20\nend\n") (codes "1 bax a 3 4 40 20" ∷ codes "end" ∷ [] ∷ []) (fault_at 2 kind.Command) (λ e. absurd cc) refl refl
 
-unbuilt : IsFault (codes "dunnart 1\n1 undo\nend\n") (fault_at 2 kind.NotYet)
-unbuilt = faulty_2 (codes "dunnart 1\n1 undo\nend\n") (codes "1 undo" ∷ codes "end" ∷ [] ∷ []) (fault_at 2 kind.NotYet) (λ e. absurd cc) refl refl
+undo_of_name : IsFault (codes "dunnart 1\n1 undo a\nend\n") (fault_at 2 kind.Fields)
+undo_of_name = faulty_2 (codes "dunnart 1\n1 undo a\nend\n") (codes "1 undo a" ∷ codes "end" ∷ [] ∷ []) (fault_at 2 kind.Fields) (λ e. absurd cc) refl refl
 
 two_spaces : IsFault (codes "dunnart 1\n1 box a  3 4 40 20\nend\n") (fault_at 2 kind.Fields)
 two_spaces = faulty_2 (codes "dunnart 1\n1 box a  3 4 40 20\nend\n") (codes "1 box a  3 4 40 20" ∷ codes "end" ∷ [] ∷ []) (fault_at 2 kind.Fields) (λ e. absurd cc) refl refl
-
-unbuilt_members : IsFault (codes "dunnart 1\n1 align c g mid a b\nend\n") (fault_at 2 kind.NotYet)
-unbuilt_members = faulty_2 (codes "dunnart 1\n1 align c g mid a b\nend\n") (codes "1 align c g mid a b" ∷ codes "end" ∷ [] ∷ []) (fault_at 2 kind.NotYet) (λ e. absurd cc) refl refl
 
 no_member : IsFault (codes "dunnart 1\n1 align c g mid\nend\n") (fault_at 2 kind.Fields)
 no_member = faulty_2 (codes "dunnart 1\n1 align c g mid\nend\n") (codes "1 align c g mid" ∷ codes "end" ∷ [] ∷ []) (fault_at 2 kind.Fields) (λ e. absurd cc) refl refl

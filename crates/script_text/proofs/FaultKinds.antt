@@ -1,33 +1,29 @@
 -- The kind of a fault: the first that holds.
 use Rattle.std.proofs.Common.{◌≡◌, ℕ, suc, ◌+◌, ◌-◌, ◌<◌, ◌≤◌, Bool, true, false, cond, not, eqb, ltb, leb, List, [], ◌∷◌, ◌++◌, length, get_or, drop, Result, Ok, Err, Option, Some, None, refl, sym, ap, subst, ◌∙◌, arith, inl, inr}
-use Rattle.std.specs.Prelude.{slice_index, ◌⊎◌, decimal}
+use Rattle.std.specs.Prelude.{slice_index, ◌⊎◌}
 use Rattle.std.proofs.Math.Seq.{get_or-append_seam}
 use Rattle.std.proofs.lemmas.Bool.{cases_eq, both_ways, ne_eqb, eqb-true, ltb-true, ltb-false, leb-true, leb-false, le-leb, and_parts, not-true, not-false}
 use Rattle.std.proofs.lemmas.List.{length-append}
 use Rattle.std.proofs.lemmas.Fmt.{decimal_digit}
-use Rattle.std.proofs.lemmas.List.Splits.{join_with_byte-slice_split}
-use Rattle.script_text.specs.Words.{Word, spaced}
+use Rattle.script_text.specs.Words.{Word}
 use Rattle.script_text.specs.Pieces.{pieces}
-use Rattle.script_text.specs.Keywords.{keyword_word, is_built}
 use Rattle.script_text.specs.Grammar.{slots}
-use Rattle.script_text.specs.Commands.{Field, fields_words}
-use Rattle.script_text.specs.Faults.{line_behind, HasLf, BeginsSession, HasCommand, IsUnbuilt, Holds, rank, IsFirstKind}
+use Rattle.script_text.specs.Commands.{Field}
+use Rattle.script_text.specs.Faults.{line_behind, HasLf, BeginsSession, HasCommand, Holds, rank, IsFirstKind}
 use Rattle.script_text.specs.Reading.{Parts, LineParts, line_at, begins_session, with_session, command_at, command_by, parts_or, fields_at, keyword_of, last_kind}
 use Rattle.script_text.specs.declared.keywords.Keyword.{Keyword}
 use Rattle.script_text.specs.declared.faults.FaultKind.{FaultKind}
 use Rattle.script_text.specs.declared.faults.FaultKind.TheVariants as kind
 use Rattle.script_text.proofs.Cutting.{not_nil}
 use Rattle.script_text.proofs.Table.{keyword_again, keyword_sound}
-use Rattle.script_text.proofs.Laws.{fields_sound, fields_fit, fields_again}
-use Rattle.script_text.proofs.WholeLines.{from_second, split_join}
-use Rattle.script_text.proofs.Bytes.{words_lack}
+use Rattle.script_text.proofs.WholeLines.{from_second}
 
 -- ---- the order of the kinds
 
 of_rank : ℕ → FaultKind
 of_rank r =
     cond (eqb r 0) kind.After (cond (eqb r 1) kind.Missing (cond (eqb r 2) kind.Cut (cond (eqb r 3) kind.Header (cond (eqb r 4) kind.Long
-    (cond (eqb r 5) kind.TooMany (cond (eqb r 6) kind.Session (cond (eqb r 7) kind.Command (cond (eqb r 8) kind.NotYet kind.Fields))))))))
+    (cond (eqb r 5) kind.TooMany (cond (eqb r 6) kind.Session (cond (eqb r 7) kind.Command kind.Fields)))))))
 
 of_rank_again : (k : FaultKind) → of_rank (rank k) ≡ k
 unfolding of_rank
@@ -39,7 +35,6 @@ of_rank_again kind.Long = refl
 of_rank_again kind.TooMany = refl
 of_rank_again kind.Session = refl
 of_rank_again kind.Command = refl
-of_rank_again kind.NotYet = refl
 of_rank_again kind.Fields = refl
 
 pub same_rank : (a b : FaultKind) → rank a ≡ rank b → a ≡ b
@@ -137,85 +132,23 @@ same_err f g A e = cc
 no_some : (k : Keyword) (r : Option Keyword) → r ≡ None → r ≡ Some k → ⊥
 no_some k r e f = absurd cc
 
-same_some : (j k : Keyword) → let some : Keyword → Option Keyword = (λ x. Some x) in some j ≡ some k → j ≡ k
-same_some j k e = cc
+by_fields : (bytes : List ℕ) (n : ℕ) (k : Keyword) (o : Option (List Field)) (f : FaultKind) → Clear bytes n 8 → parts_or k o ≡ Err f → IsFirstKind bytes n f
+by_fields bytes n k None f clear e = subst (λ (x : FaultKind). IsFirstKind bytes n x) (same_err kind.Fields f Parts e) record { holds = tt; first = clear }
+by_fields bytes n k (Some fs) f clear e = absurd cc
 
-same_keyword : (j k : Keyword) → keyword_word j ≡ keyword_word k → j ≡ k
-same_keyword j k e = same_some j k (sym (keyword_again j) ∙ ap keyword_of e ∙ keyword_again k)
-
-unbuilt_words : (line : List ℕ) (u : IsUnbuilt line) → pieces 32 (drop 2 line) ≡ keyword_word u.keyword ∷ fields_words u.fields
-unbuilt_words line u =
-    let digit = decimal_digit u.session (omega (arith, u.is_session)) in
-    let text : line ≡ (48 + u.session) ∷ 32 ∷ spaced (keyword_word u.keyword ∷ fields_words u.fields) = u.text ∙ ap (λ (d : List ℕ). d ++ 32 ∷ spaced (keyword_word u.keyword ∷ fields_words u.fields)) digit in
-    let lack = words_lack 32 (omega arith) u.keyword u.fields u.are in
-    ap (λ (l : List ℕ). pieces 32 (drop 2 l)) text ∙ split_join 32 (keyword_word u.keyword) (fields_words u.fields) refl lack.0 lack.1
-
--- it has the keyword and the fields of its words
-unbuilt_is : (line : List ℕ) (w : Word) (ws : List Word) (k : Keyword) → pieces 32 (drop 2 line) ≡ w ∷ ws → w ≡ keyword_word k → (u : IsUnbuilt line) → (is_built k ≡ false) × (fields_at (slots k) ws ≡ Some u.fields)
-unbuilt_is line w ws k p e u =
-    let q = unbuilt_words line u in
-    let same : keyword_word k ≡ keyword_word u.keyword = sym e ∙ first_word w (keyword_word u.keyword) ws (fields_words u.fields) (sym p ∙ q) in
-    let rest : ws ≡ fields_words u.fields = other_words w (keyword_word u.keyword) ws (fields_words u.fields) (sym p ∙ q) in
-    let key : k ≡ u.keyword = same_keyword k u.keyword same in
-    (ap is_built key ∙ u.unbuilt, rw (key, rest) (fields_again u.keyword u.fields u.fit u.are))
-  where
-    first_word : (v w : Word) (vs ws : List Word) → v ∷ vs ≡ w ∷ ws → v ≡ w
-    first_word v w vs ws e = cc
-
-    other_words : (v w : Word) (vs ws : List Word) → v ∷ vs ≡ w ∷ ws → vs ≡ ws
-    other_words v w vs ws e = cc
-
--- what is read of a line of a command that isn't built
-unbuilt_from : (line : List ℕ) (w : Word) (ws : List Word) (k : Keyword) (fs : List Field) → BeginsSession line → pieces 32 (drop 2 line) ≡ w ∷ ws → w ≡ keyword_word k → fields_at (slots k) ws ≡ Some fs → is_built k ≡ false → IsUnbuilt line
-unbuilt_from line w ws k fs b p e fields built =
-    let digit = decimal_digit b.session (omega (arith, b.is_session)) in
-    let text : line ≡ (48 + b.session) ∷ 32 ∷ b.rest = b.is ∙ ap (λ (d : List ℕ). d ++ 32 ∷ b.rest) digit in
-    let rest : drop 2 line ≡ b.rest = ap (drop 2) text in
-    let said = fields_sound (slots k) ws fs fields in
-    let joined : b.rest ≡ spaced (keyword_word k ∷ fields_words fs) = sym rest ∙ sym (join_with_byte-slice_split 32 (drop 2 line)) ∙ ap spaced (p ∙ joined_words w (keyword_word k) ws (fields_words fs) e said.words) in
-    record {
-      keyword = k;
-      unbuilt = built;
-      session = b.session;
-      is_session = b.is_session;
-      fields = fs;
-      fit = fields_fit (slots k) ws fs fields;
-      are = said.are;
-      text = b.is ∙ ap (λ (r : List ℕ). decimal b.session ++ 32 ∷ r) joined;
-    }
-  where
-    joined_words : (v w : Word) (vs ws : List Word) → v ≡ w → vs ≡ ws → v ∷ vs ≡ w ∷ ws
-    joined_words v w vs ws e f = rw (e, f) refl
-
-none_fields : (fs : List Field) (o : Option (List Field)) → o ≡ None → o ≡ Some fs → ⊥
-none_fields fs o e f = absurd cc
-
-by_built : (bytes : List ℕ) (n : ℕ) (w : Word) (ws : List Word) (k : Keyword) (fs : List Field) (b : Bool) (f : FaultKind) → BeginsSession (line_behind bytes n) → pieces 32 (drop 2 (line_behind bytes n)) ≡ w ∷ ws → w ≡ keyword_word k → Clear bytes n 8
-    → fields_at (slots k) ws ≡ Some fs → is_built k ≡ b → cond {A = Result Parts FaultKind} b (Ok (k, fs)) (Err kind.NotYet) ≡ Err f → IsFirstKind bytes n f
-by_built bytes n w ws k fs true f begins p is clear fields built e = absurd cc
-by_built bytes n w ws k fs false f begins p is clear fields built e =
-    subst (λ (x : FaultKind). IsFirstKind bytes n x) (same_err kind.NotYet f Parts e) record { holds = unbuilt_from (line_behind bytes n) w ws k fs begins p is fields built; first = clear }
-
-by_fields : (bytes : List ℕ) (n : ℕ) (w : Word) (ws : List Word) (k : Keyword) (o : Option (List Field)) (f : FaultKind) → BeginsSession (line_behind bytes n) → pieces 32 (drop 2 (line_behind bytes n)) ≡ w ∷ ws → w ≡ keyword_word k → Clear bytes n 8
-    → fields_at (slots k) ws ≡ o → parts_or k o ≡ Err f → IsFirstKind bytes n f
-by_fields bytes n w ws k None f begins p is clear fields e =
-    let nine : Clear bytes n 9 = clear_next bytes n kind.NotYet clear (λ u. none_fields u.fields (fields_at (slots k) ws) fields (unbuilt_is (line_behind bytes n) w ws k p is u).1) in
-    subst (λ (x : FaultKind). IsFirstKind bytes n x) (same_err kind.Fields f Parts e) record { holds = tt; first = nine }
-by_fields bytes n w ws k (Some fs) f begins p is clear fields e = by_built bytes n w ws k fs (is_built k) f begins p is clear fields refl e
-
-by_keyword : (bytes : List ℕ) (n : ℕ) (w : Word) (ws : List Word) (r : Option Keyword) (f : FaultKind) → BeginsSession (line_behind bytes n) → pieces 32 (drop 2 (line_behind bytes n)) ≡ w ∷ ws → Clear bytes n 7 → keyword_of w ≡ r → command_by ws r ≡ Err f → IsFirstKind bytes n f
-by_keyword bytes n w ws None f begins p clear none e =
+by_keyword : (bytes : List ℕ) (n : ℕ) (w : Word) (ws : List Word) (r : Option Keyword) (f : FaultKind) → pieces 32 (drop 2 (line_behind bytes n)) ≡ w ∷ ws → Clear bytes n 7 → keyword_of w ≡ r → command_by ws r ≡ Err f → IsFirstKind bytes n f
+by_keyword bytes n w ws None f p clear none e =
     let is : get_or (pieces 32 (drop 2 (line_behind bytes n))) 0 [] ≡ w = ap (λ (ps : List Word). get_or ps 0 []) p in
     subst (λ (x : FaultKind). IsFirstKind bytes n x) (same_err kind.Command f Parts e) record { holds = λ k has. no_some k (keyword_of w) none (ap keyword_of (sym is ∙ has) ∙ keyword_again k); first = clear }
-by_keyword bytes n w ws (Some k) f begins p clear some e =
+by_keyword bytes n w ws (Some k) f p clear some e =
     let is : get_or (pieces 32 (drop 2 (line_behind bytes n))) 0 [] ≡ w = ap (λ (ps : List Word). get_or ps 0 []) p in
     let has : HasCommand (line_behind bytes n) k = is ∙ keyword_sound w k some in
     let eight : Clear bytes n 8 = clear_next bytes n kind.Command clear (λ h. h k has) in
-    by_fields bytes n w ws k (fields_at (slots k) ws) f begins p (keyword_sound w k some) eight refl e
+    by_fields bytes n k (fields_at (slots k) ws) f eight e
 
-by_words : (bytes : List ℕ) (n : ℕ) (ps : List Word) (f : FaultKind) → BeginsSession (line_behind bytes n) → ps ≡ pieces 32 (drop 2 (line_behind bytes n)) → Clear bytes n 7 → command_at ps ≡ Err f → IsFirstKind bytes n f
-by_words bytes n [] f begins is clear e = absurd (not_nil 32 (drop 2 (line_behind bytes n)) (sym is))
-by_words bytes n (w ∷ ws) f begins is clear e = by_keyword bytes n w ws (keyword_of w) f begins (sym is) clear refl e
+by_words : (bytes : List ℕ) (n : ℕ) (ps : List Word) (f : FaultKind) → ps ≡ pieces 32 (drop 2 (line_behind bytes n)) → Clear bytes n 7 → command_at ps ≡ Err f → IsFirstKind bytes n f
+by_words bytes n [] f is clear e = absurd (not_nil 32 (drop 2 (line_behind bytes n)) (sym is))
+by_words bytes n (w ∷ ws) f is clear e = by_keyword bytes n w ws (keyword_of w) f (sym is) clear refl e
 
 session_err : (s : ℕ) (r : Result Parts FaultKind) (f : FaultKind) → with_session s r ≡ Err f → r ≡ Err f
 session_err s (Ok c) f e = absurd cc
@@ -250,7 +183,7 @@ by_tests bytes k line false false c f is clear long few session e =
     by_session bytes k line false f is clear session e =
         let begins : BeginsSession (line_behind bytes (suc k)) = subst BeginsSession (sym is) (session_of line (not-false _ session)) in
         let seven : Clear bytes (suc k) 7 = clear_next bytes (suc k) kind.Session clear (λ h. h begins) in
-        by_words bytes (suc k) (pieces 32 (drop 2 line)) f begins (ap (λ (x : List ℕ). pieces 32 (drop 2 x)) (sym is)) seven (session_err (slice_index line 0 - 48) (command_at (pieces 32 (drop 2 line))) f e)
+        by_words bytes (suc k) (pieces 32 (drop 2 line)) f (ap (λ (x : List ℕ). pieces 32 (drop 2 x)) (sym is)) seven (session_err (slice_index line 0 - 48) (command_at (pieces 32 (drop 2 line))) f e)
 
 -- a line behind k command lines that isn't read
 pub line_kind : (bytes : List ℕ) (k : ℕ) (line next : List ℕ) (more : List (List ℕ)) (f : FaultKind) → Place bytes (suc k) line (next ∷ more) → (Holds kind.After bytes (suc k) → ⊥) → line_at k line ≡ Err f → IsFirstKind bytes (suc k) f

@@ -11,11 +11,9 @@ use Rattle.script_text.specs.declared.scripts.Command.{Command}
 use Rattle.script_text.specs.declared.scripts.Command.TheVariants as command
 use Rattle.script_text.specs.declared.keywords.Keyword.{Keyword}
 use Rattle.script_text.specs.declared.keywords.Keyword.TheVariants as keyword
-use Rattle.script_text.specs.declared.slots.Slot.{Slot}
-use Rattle.script_text.specs.declared.slots.Slot.TheVariants as slot
 use Rattle.script_text.specs.Words.{Word}
 use Rattle.script_text.specs.Numbers.{number_of}
-use Rattle.script_text.specs.Grammar.{slots, is_choice}
+use Rattle.script_text.specs.Grammar.{Slot, NameSlot, NumberSlot, ChoiceSlot, MembersSlot, slots, is_choice}
 use Rattle.script_text.specs.Commands.{Field, NameField, NumberField, ChoiceField, MembersField, slot_of, edit_keyword, edit_fields, command_keyword, command_fields, field_words, fields_words, IsField, AreFields, AreNames}
 use Rattle.script_text.specs.Reading.{◌>>=◌, word_field, members_of, field_at, ends_at, fields_at}
 use Rattle.script_text.proofs.Numerals.{number_sound, number_again}
@@ -48,18 +46,18 @@ pub record Says (f : Field) (w : Word) : Type 0 where
   pub is : IsField f
 
 word_sound : (slot : Slot) (w : Word) (f : Field) → word_field slot w ≡ Some f → Says f w
-word_sound slot.Name w f e =
+word_sound NameSlot w f e =
     let b = bind_some (name_of w) (λ n. Some (NameField n)) f e in
     let g = guarded (is_name w) w b.0 b.1 in
     rw (← same_some (NameField b.0) f b.2, ← g.1) record { words = refl; is = g.0 }
-word_sound slot.Number w f e =
+word_sound NumberSlot w f e =
     let b = bind_some (number_of w) (λ z. Some (NumberField z)) f e in
     let g = number_sound w b.0 b.1 in
     rw (← same_some (NumberField b.0) f b.2) record { words = ap (λ (v : Word). v ∷ []) (sym g.0); is = g.1 }
-word_sound (slot.Choice c) w f e =
+word_sound (ChoiceSlot c) w f e =
     let g = chosen (is_choice c w) (ChoiceField c w) f e in
     rw (← g.1) record { words = refl; is = g.0 }
-word_sound slot.Members w f e = absurd cc
+word_sound MembersSlot w f e = absurd cc
 
 -- the field takes the first words, and leaves the rest
 pub record Takes (ws : List Word) (f : Field) (rest : List Word) : Type 0 where
@@ -81,38 +79,18 @@ some_length [] e = absurd cc
 some_length (w ∷ ws) e = omega arith
 
 field_takes : (s : Slot) (ws : List Word) (x : Field × List Word) → field_at s ws ≡ Some x → Takes ws x.0 x.1
-field_takes slot.Members ws x e =
+field_takes MembersSlot ws x e =
     let b = bind_some (members_of ws) (λ ms. Some (MembersField ms, [])) x e in
     let g = members_guarded (not (eqb (length ws) 0) && list_all is_name ws) ws b.0 b.1 in
     let p = and_parts (not (eqb (length ws) 0)) (list_all is_name ws) g.0 in
     let t : Takes ws (MembersField ws) [] = record { parts = sym (append-nil ws); is = (some_length ws p.0, are_names ws p.1) } in
     subst (λ (y : Field × List Word). Takes ws y.0 y.1) (same_some (MembersField b.0, []) x b.2) (rw (← g.1) t)
-field_takes slot.Name [] x e = absurd cc
-field_takes slot.Number [] x e = absurd cc
-field_takes (slot.Choice c) [] x e = absurd cc
-field_takes slot.Name (w ∷ ws) x e = word_takes slot.Name w ws x e
-field_takes slot.Number (w ∷ ws) x e = word_takes slot.Number w ws x e
-field_takes (slot.Choice c) (w ∷ ws) x e = word_takes (slot.Choice c) w ws x e
-
-word_fits : (s : Slot) (w : Word) (f : Field) → word_field s w ≡ Some f → slot_of f ≡ s
-word_fits slot.Name w f e = let b = bind_some (name_of w) (λ n. Some (NameField n)) f e in rw (← same_some (NameField b.0) f b.2) refl
-word_fits slot.Number w f e = let b = bind_some (number_of w) (λ z. Some (NumberField z)) f e in rw (← same_some (NumberField b.0) f b.2) refl
-word_fits (slot.Choice c) w f e = let g = chosen (is_choice c w) (ChoiceField c w) f e in rw (← g.1) refl
-word_fits slot.Members w f e = absurd cc
-
-bound_fits : (s : Slot) (w : Word) (ws : List Word) (x : Field × List Word) → (word_field s w >>= λ f. Some (f, ws)) ≡ Some x → slot_of x.0 ≡ s
-bound_fits s w ws x e = let b = bind_some (word_field s w) (λ f. Some (f, ws)) x e in subst (λ (y : Field × List Word). slot_of y.0 ≡ s) (same_some (b.0, ws) x b.2) (word_fits s w b.0 b.1)
-
-field_fits : (s : Slot) (ws : List Word) (x : Field × List Word) → field_at s ws ≡ Some x → slot_of x.0 ≡ s
-field_fits slot.Members ws x e =
-    let b = bind_some (members_of ws) (λ ms. Some (MembersField ms, [])) x e in
-    subst (λ (y : Field × List Word). slot_of y.0 ≡ slot.Members) (same_some (MembersField b.0, []) x b.2) refl
-field_fits slot.Name [] x e = absurd cc
-field_fits slot.Number [] x e = absurd cc
-field_fits (slot.Choice c) [] x e = absurd cc
-field_fits slot.Name (w ∷ ws) x e = bound_fits slot.Name w ws x e
-field_fits slot.Number (w ∷ ws) x e = bound_fits slot.Number w ws x e
-field_fits (slot.Choice c) (w ∷ ws) x e = bound_fits (slot.Choice c) w ws x e
+field_takes NameSlot [] x e = absurd cc
+field_takes NumberSlot [] x e = absurd cc
+field_takes (ChoiceSlot c) [] x e = absurd cc
+field_takes NameSlot (w ∷ ws) x e = word_takes NameSlot w ws x e
+field_takes NumberSlot (w ∷ ws) x e = word_takes NumberSlot w ws x e
+field_takes (ChoiceSlot c) (w ∷ ws) x e = word_takes (ChoiceSlot c) w ws x e
 
 -- the fields say the words
 pub record SaysAll (ws : List Word) (fs : List Field) : Type 0 where
@@ -132,29 +110,16 @@ fields_sound (s ∷ ss) ws fs e =
     let r = fields_sound ss a.0.1 b.0 b.1 in
     rw (← same_some (a.0.0 ∷ b.0) fs b.2) record { words = t.parts ∙ ap (λ (v : List Word). field_words a.0.0 ++ v) r.words; are = (t.is, r.are) }
 
-none_left : (ws : List Word) (fs : List Field) → ends_at ws ≡ Some fs → map slot_of fs ≡ []
-none_left [] fs e = rw (← same_some [] fs e) refl
-none_left (w ∷ ws) fs e = absurd cc
-
-pub fields_fit : (ss : List Slot) (ws : List Word) (fs : List Field) → fields_at ss ws ≡ Some fs → map slot_of fs ≡ ss
-fields_fit [] ws fs e = none_left ws fs e
-fields_fit (s ∷ ss) ws fs e =
-    let a = bind_some (field_at s ws) (λ f. fields_at ss f.1 >>= λ gs. Some (f.0 ∷ gs)) fs e in
-    let b = bind_some (fields_at ss a.0.1) (λ gs. Some (a.0.0 ∷ gs)) fs a.2 in
-    let first : slot_of a.0.0 ≡ s = field_fits s ws a.0 a.1 in
-    let rest : map slot_of b.0 ≡ ss = fields_fit ss a.0.1 b.0 b.1 in
-    rw (← same_some (a.0.0 ∷ b.0) fs b.2, first, rest) refl
-
 -- ---- what is spelled so is read
 
 -- members stand last
 abbrev members_last : List Slot → Bool
 members_last [] = true
-members_last (slot.Members ∷ []) = true
-members_last (slot.Members ∷ s ∷ ss) = false
-members_last (slot.Name ∷ ss) = members_last ss
-members_last (slot.Number ∷ ss) = members_last ss
-members_last (slot.Choice c ∷ ss) = members_last ss
+members_last (MembersSlot ∷ []) = true
+members_last (MembersSlot ∷ s ∷ ss) = false
+members_last (NameSlot ∷ ss) = members_last ss
+members_last (NumberSlot ∷ ss) = members_last ss
+members_last (ChoiceSlot c ∷ ss) = members_last ss
 
 all_names : (ws : List Word) → AreNames ws → list_all is_name ws ≡ true
 all_names [] h = refl
@@ -227,5 +192,6 @@ edit_slots (edit.Drop n) = refl
 
 pub command_slots : (c : Command) → map slot_of (command_fields c) ≡ slots (command_keyword c)
 command_slots (command.Edit e) = edit_slots e
+command_slots command.Undo = refl
 command_slots command.Layout = refl
 command_slots (command.Where n) = refl

@@ -1,5 +1,4 @@
 pub mod Table
-pub mod FieldSlots
 pub mod Cutting
 pub mod Numerals
 pub mod Laws

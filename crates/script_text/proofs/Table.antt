@@ -1,8 +1,7 @@
 -- The table of the words of commands.
-use Rattle.std.proofs.Common.{◌≡◌, ℕ, zero, suc, Bool, true, false, cond, List, [], ◌∷◌, map, Option, Some, None, refl, sym, ap}
-use Rattle.std.specs.Prelude.{bytes_eq, ◌||◌, IfSome}
-use Rattle.std.specs.List.{slice_get, list_any}
-use Rattle.std.specs.Option.{is_some}
+use Rattle.std.proofs.Common.{◌≡◌, ℕ, suc, Bool, true, false, cond, List, [], ◌∷◌, map, Option, Some, None, refl, sym, ap}
+use Rattle.std.specs.Prelude.{bytes_eq}
+use Rattle.std.specs.List.{slice_get}
 use Rattle.std.proofs.lemmas.Slice.Eq.{bytes_eq-Decides}
 use Rattle.script_text.specs.Words.{Word}
 use Rattle.script_text.specs.Keywords.{keyword_word, all_keywords}
@@ -64,35 +63,3 @@ no_row r n e f = absurd cc
 -- a word that stands in no row is that of no command
 pub no_keyword : (table : List Word) (r : Option ℕ) (w : Word) → table ≡ map keyword_word all_keywords → ((row : ℕ) → slice_get table row ≡ Some w → r ≡ Some row) → r ≡ None → keyword_of w ≡ None
 no_keyword table r w t own none = among_none all_keywords w (λ row e. no_row r row none (own row (rw t e)))
-
--- ---- a word in any table
-
-same_word : (x w : Word) → let some : Word → Option Word = (λ v. Some v) in some x ≡ some w → x ≡ w
-same_word x w e = cc
-
-or_left : (a b : Bool) → a ≡ true → (a || b) ≡ true
-or_left true b e = refl
-or_left false b e = absurd cc
-
-or_right : (a b : Bool) → b ≡ true → (a || b) ≡ true
-or_right true b e = refl
-or_right false b e = e
-
-or_false : (a b : Bool) → (a ≡ true → ⊥) → b ≡ false → (a || b) ≡ false
-or_false true b never e = absurd (never refl)
-or_false false b never e = e
-
-any_row : (table : List Word) (w : Word) (row : ℕ) → slice_get table row ≡ Some w → list_any (bytes_eq w) table ≡ true
-any_row [] w row e = absurd cc
-any_row (x ∷ table) w zero e = or_left (bytes_eq w x) (list_any (bytes_eq w) table) ((bytes_eq-Decides w x).1 (sym (same_word x w e)))
-any_row (x ∷ table) w (suc row) e = or_right (bytes_eq w x) (list_any (bytes_eq w) table) (any_row table w row e)
-
-no_row_any : (table : List Word) (w : Word) → ((row : ℕ) → slice_get table row ≡ Some w → ⊥) → list_any (bytes_eq w) table ≡ false
-no_row_any [] w none = refl
-no_row_any (x ∷ table) w none =
-    or_false (bytes_eq w x) (list_any (bytes_eq w) table) (λ e. none 0 (ap (λ (v : Word). Some v) (sym ((bytes_eq-Decides w x).0 e)))) (no_row_any table w (λ row e. none (suc row) e))
-
--- a word stands in the table exactly where it is found
-pub found_any : (table : List Word) (w : Word) (r : Option ℕ) → IfSome r (λ row. slice_get table row ≡ Some w) → ((row : ℕ) → slice_get table row ≡ Some w → r ≡ Some row) → is_some r ≡ list_any (bytes_eq w) table
-found_any table w (Some row) is own = sym (any_row table w row is)
-found_any table w None is own = sym (no_row_any table w (λ row e. no_row None row refl (own row e)))

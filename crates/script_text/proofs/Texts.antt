@@ -76,7 +76,8 @@ from keyword.Group fs = command.Edit (edit.Group (name_in (nth 0 fs)) (number_in
 from keyword.Page fs = command.Edit (edit.Page (name_in (nth 0 fs)) (number_in (nth 1 fs)) (number_in (nth 2 fs)) (number_in (nth 3 fs)) (number_in (nth 4 fs)) (number_in (nth 5 fs)) (bytes_eq (word_in (nth 6 fs)) (codes "rigid")))
 from keyword.Drop fs = command.Edit (edit.Drop (name_in (nth 0 fs)))
 from keyword.Where fs = command.Where (name_in (nth 0 fs))
-from _ fs = command.Layout
+from keyword.Undo fs = command.Undo
+from keyword.Layout fs = command.Layout
 
 edit_back : (e : Edit) → from (edit_keyword e) (edit_fields e) ≡ command.Edit e
 unfolding from nth name_in number_in members_in word_in axis_in line_in
@@ -112,6 +113,7 @@ edit_back (edit.Drop n) = refl
 back : (c : Command) → from (command_keyword c) (command_fields c) ≡ c
 unfolding from nth name_in
 back (command.Edit e) = edit_back e
+back command.Undo = refl
 back command.Layout = refl
 back (command.Where n) = refl
 

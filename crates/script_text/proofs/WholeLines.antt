@@ -7,7 +7,7 @@ use Rattle.std.proofs.lemmas.Bool.{eqb-true, le-ltb, lt-leb, and_parts, le-leb, 
 use Rattle.std.proofs.lemmas.List.Splits.{slice_split_at, slice_split_none, join_with_byte-slice_split}
 use Rattle.script_text.specs.Words.{Word, spaced}
 use Rattle.script_text.specs.Pieces.{pieces}
-use Rattle.script_text.specs.Keywords.{keyword_word, is_built}
+use Rattle.script_text.specs.Keywords.{keyword_word}
 use Rattle.script_text.specs.Grammar.{slots}
 use Rattle.script_text.specs.Commands.{Field, IsCommand, command_words, command_keyword, command_fields, fields_words}
 use Rattle.script_text.specs.Scripts.{line_text, IsLine}
@@ -16,19 +16,18 @@ use Rattle.script_text.specs.declared.scripts.Command.{Command}
 use Rattle.script_text.specs.declared.scripts.Line.{Line}
 use Rattle.script_text.specs.declared.keywords.Keyword.{Keyword}
 use Rattle.script_text.specs.declared.faults.FaultKind.{FaultKind}
-use Rattle.script_text.specs.declared.faults.FaultKind.TheVariants as kind
 use Rattle.script_text.proofs.Table.{keyword_again, keyword_sound}
 use Rattle.script_text.proofs.Laws.{command_slots, fields_again, fields_sound, SaysAll}
 
 -- ---- a command
 
-command_by_again : (ws : List Word) (r : Option Keyword) (k : Keyword) (fs : List Field) → r ≡ Some k → is_built k ≡ true → fields_at (slots k) ws ≡ Some fs → command_by ws r ≡ Ok (k, fs)
-command_by_again ws r k fs e built fields = rw (e, fields, built) refl
+command_by_again : (ws : List Word) (r : Option Keyword) (k : Keyword) (fs : List Field) → r ≡ Some k → fields_at (slots k) ws ≡ Some fs → command_by ws r ≡ Ok (k, fs)
+command_by_again ws r k fs e fields = rw (e, fields) refl
 
 command_again : (c : Command) → IsCommand c → command_at (command_words c) ≡ Ok (parts c)
 command_again c h =
     let fields : fields_at (slots (command_keyword c)) (fields_words (command_fields c)) ≡ Some (command_fields c) = fields_again (command_keyword c) (command_fields c) (command_slots c) h.fields in
-    command_by_again (fields_words (command_fields c)) (keyword_of (keyword_word (command_keyword c))) (command_keyword c) (command_fields c) (keyword_again (command_keyword c)) h.built fields
+    command_by_again (fields_words (command_fields c)) (keyword_of (keyword_word (command_keyword c))) (command_keyword c) (command_fields c) (keyword_again (command_keyword c)) fields
 
 -- ---- words without the byte
 
@@ -74,31 +73,27 @@ line_again k l lt h plain =
     let s : 48 + l.session - 48 ≡ l.session = omega arith in
     rw (e, short, few, low, high, words, command_again l.command h.command, s) refl
 
-built_ok : (b : Bool) (p x : Parts) → cond b (Ok p) (Err kind.NotYet) ≡ Ok x → (b ≡ true) × (x ≡ p)
-built_ok true p x e = (refl, cc)
-built_ok false p x e = absurd cc
-
-parts_or_ok : (k : Keyword) (r : Option (List Field)) (x : Parts) → parts_or k r ≡ Ok x → (fs : List Field) × (r ≡ Some fs) × (is_built k ≡ true) × (x ≡ (k, fs))
+parts_or_ok : (k : Keyword) (r : Option (List Field)) (x : Parts) → parts_or k r ≡ Ok x → (fs : List Field) × (r ≡ Some fs) × (x ≡ (k, fs))
 parts_or_ok k None x e = absurd cc
-parts_or_ok k (Some fs) x e = let b = built_ok (is_built k) (k, fs) x e in (fs, refl, b.0, b.1)
+parts_or_ok k (Some fs) x e = (fs, refl, cc)
 
-command_by_ok : (ws : List Word) (r : Option Keyword) (x : Parts) → command_by ws r ≡ Ok x → (k : Keyword) × (fs : List Field) × (r ≡ Some k) × (is_built k ≡ true) × (x ≡ (k, fs)) × SaysAll ws fs
+command_by_ok : (ws : List Word) (r : Option Keyword) (x : Parts) → command_by ws r ≡ Ok x → (k : Keyword) × (fs : List Field) × (r ≡ Some k) × (x ≡ (k, fs)) × SaysAll ws fs
 command_by_ok ws None x e = absurd cc
 command_by_ok ws (Some k) x e =
     let a = parts_or_ok k (fields_at (slots k) ws) x e in
-    (k, a.0, refl, a.2, a.3, fields_sound (slots k) ws a.0 a.1)
+    (k, a.0, refl, a.2, fields_sound (slots k) ws a.0 a.1)
 
-said : (w : Word) (ws : List Word) (c : Command) (fs : List Field) → is_built (command_keyword c) ≡ true → w ≡ keyword_word (command_keyword c) → command_fields c ≡ fs → SaysAll ws fs → (w ∷ ws ≡ command_words c) × IsCommand c
-said w ws c fs built is f s = let words : ws ≡ fields_words (command_fields c) = s.words ∙ ap fields_words (sym f) in (rw (is, words) refl, record { built = built; fields = rw f s.are })
+said : (w : Word) (ws : List Word) (c : Command) (fs : List Field) → w ≡ keyword_word (command_keyword c) → command_fields c ≡ fs → SaysAll ws fs → (w ∷ ws ≡ command_words c) × IsCommand c
+said w ws c fs is f s = let words : ws ≡ fields_words (command_fields c) = s.words ∙ ap fields_words (sym f) in (rw (is, words) refl, record { fields = rw f s.are })
 
 command_sound : (ws : List Word) (c : Command) → command_at ws ≡ Ok (parts c) → (ws ≡ command_words c) × IsCommand c
 command_sound [] c e = absurd cc
 command_sound (w ∷ ws) c e =
     let a = command_by_ok ws (keyword_of w) (parts c) e in
-    let f : command_fields c ≡ a.1 = ap (λ (x : Parts). x.1) a.4 in
-    let k : command_keyword c ≡ a.0 = ap (λ (x : Parts). x.0) a.4 in
+    let f : command_fields c ≡ a.1 = ap (λ (x : Parts). x.1) a.3 in
+    let k : command_keyword c ≡ a.0 = ap (λ (x : Parts). x.0) a.3 in
     let is : w ≡ keyword_word (command_keyword c) = keyword_sound w a.0 a.2 ∙ ap keyword_word (sym k) in
-    said w ws c a.1 (ap is_built k ∙ a.3) is f a.5
+    said w ws c a.1 is f a.4
 
 -- ---- what is known of a line that is read
 

@@ -1,6 +1,6 @@
 -- The commands of a script (they are this project's own): for each command its word and its fields, in the order
 -- of its line, and with them the words of its text.
-use Rattle.std.specs.Prelude.{◌≡◌, ◌<◌, ◌^◌, ℤ, nat_abs, List, [], ◌∷◌, ◌++◌, length, Bool, true, ⊤}
+use Rattle.std.specs.Prelude.{◌≡◌, ◌<◌, ◌^◌, ℤ, nat_abs, List, [], ◌∷◌, ◌++◌, length, true, ⊤}
 use Rattle.std.specs.Fmt.{signed_decimal}
 use Rattle.units.specs.Name.{is_name}
 use Rattle.scene_model.specs.declared.items.Form.{Form}
@@ -10,12 +10,8 @@ use Rattle.edit_rules.specs.declared.edits.Edit.TheVariants as edit
 use Rattle.script_text.specs.declared.scripts.Command.{Command}
 use Rattle.script_text.specs.declared.scripts.Command.TheVariants as command
 use Rattle.script_text.specs.Words.{Word}
-use Rattle.script_text.specs.Keywords.{keyword_word, is_built}
-use Rattle.script_text.specs.Grammar.{is_choice, axis_word, align_word, exact_word, rigid_word}
-use Rattle.script_text.specs.declared.slots.Choice.{Choice}
-use Rattle.script_text.specs.declared.slots.Choice.TheVariants as choice
-use Rattle.script_text.specs.declared.slots.Slot.{Slot}
-use Rattle.script_text.specs.declared.slots.Slot.TheVariants as slot
+use Rattle.script_text.specs.Keywords.{keyword_word}
+use Rattle.script_text.specs.Grammar.{Choice, AxisChoice, AlignLineChoice, ExactnessChoice, StiffnessChoice, Slot, NameSlot, NumberSlot, ChoiceSlot, MembersSlot, is_choice, axis_word, align_word, exact_word, rigid_word}
 use Rattle.script_text.specs.declared.keywords.Keyword.{Keyword}
 use Rattle.script_text.specs.declared.keywords.Keyword.TheVariants as keyword
 
@@ -28,10 +24,10 @@ pub data Field : Type 0 where
 
 -- the place where it can stand
 abbrev pub slot_of : Field → Slot
-slot_of (NameField n) = slot.Name
-slot_of (NumberField z) = slot.Number
-slot_of (ChoiceField c w) = slot.Choice c
-slot_of (MembersField ms) = slot.Members
+slot_of (NameField n) = NameSlot
+slot_of (NumberField z) = NumberSlot
+slot_of (ChoiceField c w) = ChoiceSlot c
+slot_of (MembersField ms) = MembersSlot
 
 -- ---- the table: the word of each command, and its fields
 
@@ -61,10 +57,6 @@ edit_keyword (edit.Group n pad ms) = keyword.Group
 edit_keyword (edit.Page n x y w h margin rigid) = keyword.Page
 edit_keyword (edit.Drop n) = keyword.Drop
 
--- whether the program has the command of the edit yet
-abbrev pub is_built_edit : Edit → Bool
-is_built_edit e = is_built (edit_keyword e)
-
 -- the fields of an edit, in the order of its line: the name first and members last, numbers on X before those on Y,
 -- places before sizes
 abbrev pub edit_fields : Edit → List Field
@@ -77,24 +69,26 @@ edit_fields (edit.Free n) = NameField n ∷ []
 edit_fields (edit.Remove n) = NameField n ∷ []
 edit_fields (edit.Join n a b) = NameField n ∷ NameField a ∷ NameField b ∷ []
 edit_fields (edit.Unlink n) = NameField n ∷ []
-edit_fields (edit.Guide n axis p) = NameField n ∷ ChoiceField choice.Axis (axis_word axis) ∷ NumberField p ∷ []
-edit_fields (edit.Align n guide line ms) = NameField n ∷ NameField guide ∷ ChoiceField choice.AlignLine (align_word line) ∷ MembersField ms ∷ []
-edit_fields (edit.Spread n axis gap ms) = NameField n ∷ ChoiceField choice.Axis (axis_word axis) ∷ NumberField gap ∷ MembersField ms ∷ []
-edit_fields (edit.Rank n axis gap ms) = NameField n ∷ ChoiceField choice.Axis (axis_word axis) ∷ NumberField gap ∷ MembersField ms ∷ []
-edit_fields (edit.Apart n axis a b gap exact) = NameField n ∷ ChoiceField choice.Axis (axis_word axis) ∷ NameField a ∷ NameField b ∷ NumberField gap ∷ ChoiceField choice.Exactness (exact_word exact) ∷ []
+edit_fields (edit.Guide n axis p) = NameField n ∷ ChoiceField AxisChoice (axis_word axis) ∷ NumberField p ∷ []
+edit_fields (edit.Align n guide line ms) = NameField n ∷ NameField guide ∷ ChoiceField AlignLineChoice (align_word line) ∷ MembersField ms ∷ []
+edit_fields (edit.Spread n axis gap ms) = NameField n ∷ ChoiceField AxisChoice (axis_word axis) ∷ NumberField gap ∷ MembersField ms ∷ []
+edit_fields (edit.Rank n axis gap ms) = NameField n ∷ ChoiceField AxisChoice (axis_word axis) ∷ NumberField gap ∷ MembersField ms ∷ []
+edit_fields (edit.Apart n axis a b gap exact) = NameField n ∷ ChoiceField AxisChoice (axis_word axis) ∷ NameField a ∷ NameField b ∷ NumberField gap ∷ ChoiceField ExactnessChoice (exact_word exact) ∷ []
 edit_fields (edit.Group n pad ms) = NameField n ∷ NumberField pad ∷ MembersField ms ∷ []
-edit_fields (edit.Page n x y w h margin rigid) = NameField n ∷ NumberField x ∷ NumberField y ∷ NumberField w ∷ NumberField h ∷ NumberField margin ∷ ChoiceField choice.Stiffness (rigid_word rigid) ∷ []
+edit_fields (edit.Page n x y w h margin rigid) = NameField n ∷ NumberField x ∷ NumberField y ∷ NumberField w ∷ NumberField h ∷ NumberField margin ∷ ChoiceField StiffnessChoice (rigid_word rigid) ∷ []
 edit_fields (edit.Drop n) = NameField n ∷ []
 
 -- the keyword of a command
 abbrev pub command_keyword : Command → Keyword
 command_keyword (command.Edit e) = edit_keyword e
+command_keyword command.Undo = keyword.Undo
 command_keyword command.Layout = keyword.Layout
 command_keyword (command.Where n) = keyword.Where
 
--- the fields of a command; a layout has none
+-- the fields of a command; an undo and a layout have none
 abbrev pub command_fields : Command → List Field
 command_fields (command.Edit e) = edit_fields e
+command_fields command.Undo = []
 command_fields command.Layout = []
 command_fields (command.Where n) = NameField n ∷ []
 
@@ -146,7 +140,6 @@ abbrev pub AreFields : List Field → Type 0
 AreFields [] = ⊤
 AreFields (f ∷ fs) = IsField f × AreFields fs
 
--- a command that a script can have: the program has it, and each field is one
+-- a command that a script can have: each of its fields is one
 pub record IsCommand (c : Command) : Type 0 where
-  pub built : is_built (command_keyword c) ≡ true
   pub fields : AreFields (command_fields c)

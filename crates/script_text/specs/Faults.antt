@@ -1,11 +1,9 @@
 -- Faults: the line at which bytes stop being a script, and what is wrong with it (the format is this project's own).
-use Rattle.std.specs.Prelude.{◌≡◌, ℕ, ◌+◌, ◌-◌, ◌<◌, ◌≤◌, List, [], ◌∷◌, ◌++◌, codes, length, map, take, drop, get_or, false, ⊤, decimal}
+use Rattle.std.specs.Prelude.{◌≡◌, ℕ, ◌+◌, ◌-◌, ◌<◌, ◌≤◌, List, [], ◌∷◌, ◌++◌, codes, length, map, take, drop, get_or, ⊤, decimal}
 use Rattle.std.specs.List.{concat}
-use Rattle.script_text.specs.Words.{Word, spaced}
+use Rattle.script_text.specs.Words.{Word}
 use Rattle.script_text.specs.Pieces.{pieces}
-use Rattle.script_text.specs.Keywords.{keyword_word, is_built}
-use Rattle.script_text.specs.Grammar.{slots}
-use Rattle.script_text.specs.Commands.{Field, slot_of, fields_words, AreFields}
+use Rattle.script_text.specs.Keywords.{keyword_word}
 use Rattle.script_text.specs.Scripts.{last_session, IsScript, script_texts, with_lf, SpellsNone}
 use Rattle.script_text.specs.declared.keywords.Keyword.{Keyword}
 use Rattle.script_text.specs.declared.scripts.Line.{Line}
@@ -50,18 +48,6 @@ word_behind_session line = get_or (pieces 32 (drop 2 line)) 0 []
 abbrev pub HasCommand : List ℕ → Keyword → Type 0
 HasCommand line k = word_behind_session line ≡ keyword_word k
 
--- a line that the grammar has, whose command the program doesn't have yet: a session, the word of the command, and
--- fields that stand at the places of that command
-pub record IsUnbuilt (line : List ℕ) : Type 0 where
-  pub keyword : Keyword
-  pub unbuilt : is_built keyword ≡ false
-  pub session : ℕ
-  pub is_session : (1 ≤ session) × (session ≤ last_session)
-  pub fields : List Field
-  pub fit : map slot_of fields ≡ slots keyword
-  pub are : AreFields fields
-  pub text : line ≡ spaced (decimal session ∷ keyword_word keyword ∷ fields_words fields)
-
 -- what each kind says of the line behind n others
 abbrev pub Holds : FaultKind → List ℕ → ℕ → Type 0
 Holds kind.After bytes n = (0 < n) × (line_behind bytes (n - 1) ≡ codes "end")
@@ -72,7 +58,6 @@ Holds kind.Long bytes n = 2048 < length (line_behind bytes n)
 Holds kind.TooMany bytes n = 2000 + 1 ≤ n
 Holds kind.Session bytes n = BeginsSession (line_behind bytes n) → ⊥
 Holds kind.Command bytes n = (k : Keyword) → HasCommand (line_behind bytes n) k → ⊥
-Holds kind.NotYet bytes n = IsUnbuilt (line_behind bytes n)
 Holds kind.Fields bytes n = ⊤
 
 -- the order of the kinds
@@ -85,8 +70,7 @@ rank kind.Long = 4
 rank kind.TooMany = 5
 rank kind.Session = 6
 rank kind.Command = 7
-rank kind.NotYet = 8
-rank kind.Fields = 9
+rank kind.Fields = 8
 
 -- the first kind that holds
 pub record IsFirstKind (bytes : List ℕ) (n : ℕ) (kind : FaultKind) : Type 0 where

@@ -1,5 +1,4 @@
--- The table of the grammar, of commands that are built and of others: what stands behind the word of each, in order
--- (it is this project's own).
+-- The table of the grammar: what stands behind the word of each command, in order (it is this project's own).
 use Rattle.std.specs.Prelude.{List, [], ◌∷◌, codes, Bool, true, false, bytes_eq}
 use Rattle.std.specs.List.{list_any}
 use Rattle.units.specs.declared.geometry.Axis.{Axis}
@@ -9,10 +8,21 @@ use Rattle.scene_model.specs.declared.items.AlignLine.TheVariants as line
 use Rattle.script_text.specs.Words.{Word}
 use Rattle.script_text.specs.declared.keywords.Keyword.{Keyword}
 use Rattle.script_text.specs.declared.keywords.Keyword.TheVariants as keyword
-use Rattle.script_text.specs.declared.slots.Slot.{Slot}
-use Rattle.script_text.specs.declared.slots.Slot.TheVariants as slot
-use Rattle.script_text.specs.declared.slots.Choice.{Choice}
-use Rattle.script_text.specs.declared.slots.Choice.TheVariants as choice
+
+-- a choice between words: `x y`, `low mid high`, `least exact`, `soft rigid`
+pub data Choice : Type 0 where
+  AxisChoice : Choice
+  AlignLineChoice : Choice
+  ExactnessChoice : Choice
+  StiffnessChoice : Choice
+
+-- what stands at a place behind the word of a command: a name, a number, one of the words of a choice, or one name or
+-- more up to the end of the line
+pub data Slot : Type 0 where
+  NameSlot : Slot
+  NumberSlot : Slot
+  ChoiceSlot : Choice → Slot
+  MembersSlot : Slot
 
 -- the word of an axis
 abbrev pub axis_word : Axis → Word
@@ -37,10 +47,10 @@ rigid_word true = codes "rigid"
 
 -- the words of a choice
 abbrev pub choice_words : Choice → List Word
-choice_words choice.Axis = axis_word axis.X ∷ axis_word axis.Y ∷ []
-choice_words choice.AlignLine = align_word line.Low ∷ align_word line.Mid ∷ align_word line.High ∷ []
-choice_words choice.Exactness = exact_word false ∷ exact_word true ∷ []
-choice_words choice.Stiffness = rigid_word false ∷ rigid_word true ∷ []
+choice_words AxisChoice = axis_word axis.X ∷ axis_word axis.Y ∷ []
+choice_words AlignLineChoice = align_word line.Low ∷ align_word line.Mid ∷ align_word line.High ∷ []
+choice_words ExactnessChoice = exact_word false ∷ exact_word true ∷ []
+choice_words StiffnessChoice = rigid_word false ∷ rigid_word true ∷ []
 
 -- whether it is one of them
 abbrev pub is_choice : Choice → Word → Bool
@@ -48,23 +58,47 @@ is_choice c w = list_any (bytes_eq w) (choice_words c)
 
 -- a shape's name, then x, y, width and height
 abbrev pub put_slots : List Slot
-put_slots = slot.Name ∷ slot.Number ∷ slot.Number ∷ slot.Number ∷ slot.Number ∷ []
+put_slots = NameSlot ∷ NumberSlot ∷ NumberSlot ∷ NumberSlot ∷ NumberSlot ∷ []
 
 -- a shape's name, then two numbers
 abbrev pub pair_slots : List Slot
-pair_slots = slot.Name ∷ slot.Number ∷ slot.Number ∷ []
+pair_slots = NameSlot ∷ NumberSlot ∷ NumberSlot ∷ []
 
 -- a guideline's name, then its place
 abbrev pub shift_slots : List Slot
-shift_slots = slot.Name ∷ slot.Number ∷ []
+shift_slots = NameSlot ∷ NumberSlot ∷ []
 
 -- a guideline's name, its axis and its place
 abbrev pub guide_slots : List Slot
-guide_slots = slot.Name ∷ slot.Choice choice.Axis ∷ slot.Number ∷ []
+guide_slots = NameSlot ∷ ChoiceSlot AxisChoice ∷ NumberSlot ∷ []
 
 -- a name
 abbrev pub name_slots : List Slot
-name_slots = slot.Name ∷ []
+name_slots = NameSlot ∷ []
+
+-- a link's name, then the names of the shapes that it joins
+abbrev pub link_slots : List Slot
+link_slots = NameSlot ∷ NameSlot ∷ NameSlot ∷ []
+
+-- an alignment's name, its guideline, the line of a shape, and members
+abbrev pub align_slots : List Slot
+align_slots = NameSlot ∷ NameSlot ∷ ChoiceSlot AlignLineChoice ∷ MembersSlot ∷ []
+
+-- the name of a spread or a rank, its axis, its gap, and members
+abbrev pub row_slots : List Slot
+row_slots = NameSlot ∷ ChoiceSlot AxisChoice ∷ NumberSlot ∷ MembersSlot ∷ []
+
+-- the name of a separation, its axis, the two that it sets apart, its gap, and whether that is exact
+abbrev pub apart_slots : List Slot
+apart_slots = NameSlot ∷ ChoiceSlot AxisChoice ∷ NameSlot ∷ NameSlot ∷ NumberSlot ∷ ChoiceSlot ExactnessChoice ∷ []
+
+-- a group's name, its padding, and members
+abbrev pub group_slots : List Slot
+group_slots = NameSlot ∷ NumberSlot ∷ MembersSlot ∷ []
+
+-- a page's name, then x, y, width, height and margin, and whether it is rigid
+abbrev pub page_slots : List Slot
+page_slots = NameSlot ∷ NumberSlot ∷ NumberSlot ∷ NumberSlot ∷ NumberSlot ∷ NumberSlot ∷ ChoiceSlot StiffnessChoice ∷ []
 
 -- what stands behind the word of each command
 abbrev pub slots : Keyword → List Slot
@@ -77,15 +111,15 @@ slots keyword.Shift = shift_slots
 slots keyword.Hold = name_slots
 slots keyword.Free = name_slots
 slots keyword.Remove = name_slots
-slots keyword.Link = slot.Name ∷ slot.Name ∷ slot.Name ∷ []
+slots keyword.Link = link_slots
 slots keyword.Unlink = name_slots
 slots keyword.Guide = guide_slots
-slots keyword.Align = slot.Name ∷ slot.Name ∷ slot.Choice choice.AlignLine ∷ slot.Members ∷ []
-slots keyword.Spread = slot.Name ∷ slot.Choice choice.Axis ∷ slot.Number ∷ slot.Members ∷ []
-slots keyword.Rank = slot.Name ∷ slot.Choice choice.Axis ∷ slot.Number ∷ slot.Members ∷ []
-slots keyword.Apart = slot.Name ∷ slot.Choice choice.Axis ∷ slot.Name ∷ slot.Name ∷ slot.Number ∷ slot.Choice choice.Exactness ∷ []
-slots keyword.Group = slot.Name ∷ slot.Number ∷ slot.Members ∷ []
-slots keyword.Page = slot.Name ∷ slot.Number ∷ slot.Number ∷ slot.Number ∷ slot.Number ∷ slot.Number ∷ slot.Choice choice.Stiffness ∷ []
+slots keyword.Align = align_slots
+slots keyword.Spread = row_slots
+slots keyword.Rank = row_slots
+slots keyword.Apart = apart_slots
+slots keyword.Group = group_slots
+slots keyword.Page = page_slots
 slots keyword.Drop = name_slots
 slots keyword.Undo = []
 slots keyword.Layout = []

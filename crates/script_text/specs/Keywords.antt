@@ -1,5 +1,5 @@
--- The words of commands, built or not (they are this project's own).
-use Rattle.std.specs.Prelude.{List, [], ◌∷◌, Bool, true, false, codes}
+-- The words of commands (they are this project's own).
+use Rattle.std.specs.Prelude.{List, [], ◌∷◌, codes}
 use Rattle.script_text.specs.Words.{Word}
 use Rattle.script_text.specs.declared.keywords.Keyword.{Keyword}
 use Rattle.script_text.specs.declared.keywords.Keyword.TheVariants as keyword
@@ -34,28 +34,3 @@ abbrev pub all_keywords : List Keyword
 all_keywords =
     keyword.Box ∷ keyword.Oval ∷ keyword.Diamond ∷ keyword.Size ∷ keyword.Move ∷ keyword.Shift ∷ keyword.Hold ∷ keyword.Free ∷ keyword.Remove ∷ keyword.Link ∷ keyword.Unlink
     ∷ keyword.Guide ∷ keyword.Align ∷ keyword.Spread ∷ keyword.Rank ∷ keyword.Apart ∷ keyword.Group ∷ keyword.Page ∷ keyword.Drop ∷ keyword.Undo ∷ keyword.Layout ∷ keyword.Where ∷ []
-
--- whether the program has the command yet
-abbrev pub is_built : Keyword → Bool
-is_built keyword.Box = true
-is_built keyword.Oval = true
-is_built keyword.Diamond = true
-is_built keyword.Size = true
-is_built keyword.Move = true
-is_built keyword.Shift = true
-is_built keyword.Hold = true
-is_built keyword.Free = true
-is_built keyword.Remove = true
-is_built keyword.Link = false
-is_built keyword.Unlink = false
-is_built keyword.Guide = true
-is_built keyword.Align = false
-is_built keyword.Spread = false
-is_built keyword.Rank = false
-is_built keyword.Apart = false
-is_built keyword.Group = false
-is_built keyword.Page = false
-is_built keyword.Drop = false
-is_built keyword.Undo = false
-is_built keyword.Layout = true
-is_built keyword.Where = true

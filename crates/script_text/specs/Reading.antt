@@ -6,18 +6,18 @@ use Rattle.units.specs.Name.{is_name, name_of}
 use Rattle.script_text.specs.Words.{Word}
 use Rattle.script_text.specs.Pieces.{pieces}
 use Rattle.script_text.specs.Numbers.{number_of}
-use Rattle.script_text.specs.Keywords.{keyword_word, all_keywords, is_built}
-use Rattle.script_text.specs.Grammar.{slots, is_choice}
+use Rattle.script_text.specs.Keywords.{keyword_word, all_keywords}
+use Rattle.script_text.specs.Grammar.{Slot, NameSlot, NumberSlot, ChoiceSlot, MembersSlot, slots, is_choice}
 use Rattle.script_text.specs.Commands.{Field, NameField, NumberField, ChoiceField, MembersField, command_keyword, command_fields}
 use Rattle.script_text.specs.Scripts.{last_session, line_text, AreLines}
 use Rattle.script_text.specs.declared.keywords.Keyword.{Keyword}
-use Rattle.script_text.specs.declared.slots.Slot.{Slot}
-use Rattle.script_text.specs.declared.slots.Slot.TheVariants as slot
 use Rattle.script_text.specs.declared.scripts.Command.{Command}
 use Rattle.script_text.specs.declared.scripts.Line.{Line}
 use Rattle.script_text.specs.declared.faults.FaultKind.{FaultKind}
 use Rattle.script_text.specs.declared.faults.FaultKind.TheVariants as kind
 use Rattle.script_text.specs.declared.faults.ScriptFault.{ScriptFault}
+use Rattle.script_text.specs.declared.faults.LineFault.{LineFault}
+use Rattle.script_text.specs.declared.faults.LineFault.TheVariants as no_line
 use Rattle.script_text.specs.declared.faults.ReadFault.{ReadFault}
 use Rattle.script_text.specs.declared.faults.ReadFault.TheVariants as cause
 
@@ -31,10 +31,10 @@ None >>= f = None
 
 -- the field that a word is at a slot, if it is one
 abbrev pub word_field : Slot → Word → Option Field
-word_field slot.Name w = name_of w >>= λ n. Some (NameField n)
-word_field slot.Number w = number_of w >>= λ z. Some (NumberField z)
-word_field (slot.Choice c) w = if is_choice c w then Some (ChoiceField c w) else None
-word_field slot.Members w = None
+word_field NameSlot w = name_of w >>= λ n. Some (NameField n)
+word_field NumberSlot w = number_of w >>= λ z. Some (NumberField z)
+word_field (ChoiceSlot c) w = if is_choice c w then Some (ChoiceField c w) else None
+word_field MembersSlot w = None
 
 -- the words as members, where they are one name or more
 abbrev pub members_of : List Word → Option (List Word)
@@ -42,7 +42,7 @@ members_of ws = if not (length ws == 0) && list_all is_name ws then Some ws else
 
 -- a field and the words behind it; members are all words
 abbrev pub field_at : Slot → List Word → Option (Field × List Word)
-field_at slot.Members ws = members_of ws >>= λ ms. Some (MembersField ms, [])
+field_at MembersSlot ws = members_of ws >>= λ ms. Some (MembersField ms, [])
 field_at s [] = None
 field_at s (w ∷ ws) = word_field s w >>= λ f. Some (f, ws)
 
@@ -75,10 +75,10 @@ Parts = Keyword × List Field
 abbrev pub parts : Command → Parts
 parts c = (command_keyword c, command_fields c)
 
--- a keyword with the fields that were read, or the fault where none were or the command isn't built
+-- a keyword with the fields that were read, or the fault where none were
 abbrev pub parts_or : Keyword → Option (List Field) → Result Parts FaultKind
 parts_or k None = Err kind.Fields
-parts_or k (Some fs) = if is_built k then Ok (k, fs) else Err kind.NotYet
+parts_or k (Some fs) = Ok (k, fs)
 
 -- the command with these words behind its keyword
 abbrev pub command_by : List Word → Option Keyword → Result Parts FaultKind
@@ -173,6 +173,11 @@ pub record StopsBehind (body : List (List ℕ)) (fault : ScriptFault) : Type 0 w
 pub data Stops (pieces_of_script : List (List ℕ)) (fault : ScriptFault) : Type 0 where
   AtHeader : header_stop pieces_of_script ≡ Some fault → Stops pieces_of_script fault
   Behind : (body : List (List ℕ)) → pieces_of_script ≡ codes "dunnart 1" ∷ body → StopsBehind body fault → Stops pieces_of_script fault
+
+-- what a function answered in place of a line: a fault of this kind, unless memory ran out
+abbrev pub AnswersKind : (FaultKind → Type 0) → LineFault → Type 0
+AnswersKind Is no_line.Memory = ⊤
+AnswersKind Is (no_line.Kind kind) = Is kind
 
 -- what a function answered in place of a value: this fault, unless memory ran out
 abbrev pub Answers : (ScriptFault → Type 0) → ReadFault → Type 0

@@ -1,10 +1,7 @@
 //! The words of choices: a table for each choice, for the reader and the printer.
-ghost use Rattle.std.specs.Prelude.{◌≡◌, bytes_eq, false, true, MatchOption};
-ghost use Rattle.std.specs.List.{list_any};
-ghost use Rattle.script_text.specs.Grammar.{is_choice, axis_word, align_word, exact_word, rigid_word};
-ghost use Rattle.script_text.specs.declared.slots.Choice.TheVariants as choices;
+ghost use Rattle.std.specs.Prelude.{◌≡◌, false, MatchOption};
+ghost use Rattle.script_text.specs.Grammar.{AxisChoice, AlignLineChoice, ExactnessChoice, StiffnessChoice, is_choice, axis_word, align_word, exact_word, rigid_word};
 
-use crate::slots::Choice;
 use keyword_table::{Words, arms};
 use scene_model::AlignLine;
 use units::Axis;
@@ -62,31 +59,42 @@ macro_rules! stiffnesses {
     };
 }
 
-/// Whether the word is in the table.
-fn has_word<const N: usize>(words: &Words<N>, word: &[u8]) -> bool
-    ensures { result ≡ list_any (bytes_eq word.now) words.now }
-{
-    words.find(word).is_some()
-}
-
-/// Whether the word is one of the choice.
-pub fn is_choice(choice: Choice, word: &[u8]) -> bool
-    ensures { result ≡ is_choice choice word.now }
-{
-    match choice {
-        Choice::Axis => has_word(&Words::<2>::new(&axes!(words)), word),
-        Choice::AlignLine => has_word(&Words::<3>::new(&align_lines!(words)), word),
-        Choice::Exactness => has_word(&Words::<2>::new(&exactnesses!(words)), word),
-        Choice::Stiffness => has_word(&Words::<2>::new(&stiffnesses!(words)), word),
-    }
-}
-
 /// The axis with this word, if there is one.
 pub fn read_axis(word: &[u8]) -> Option<Axis>
-    ensures { MatchOption result (is_choice choices.Axis word.now ≡ false) (λ a. word.now ≡ axis_word a) }
+    ensures { MatchOption result (is_choice AxisChoice word.now ≡ false) (λ a. word.now ≡ axis_word a) }
 {
     let words = Words::<2>::new(&axes!(words));
     axes!(read words.find(word))
+}
+
+/// A shape's line with this word, if there is one.
+pub fn read_align_line(word: &[u8]) -> Option<AlignLine>
+    ensures { MatchOption result (is_choice AlignLineChoice word.now ≡ false) (λ l. word.now ≡ align_word l) }
+{
+    let words = Words::<3>::new(&align_lines!(words));
+    align_lines!(read words.find(word))
+}
+
+/// Whether the word says exactly a gap, or at least a gap; None where it is neither word.
+pub fn read_exact(word: &[u8]) -> Option<bool>
+    ensures { MatchOption result (is_choice ExactnessChoice word.now ≡ false) (λ e. word.now ≡ exact_word e) }
+{
+    let words = Words::<2>::new(&exactnesses!(words));
+    match exactnesses!(read words.find(word))? {
+        Exactness::Least => Some(false),
+        Exactness::Exact => Some(true),
+    }
+}
+
+/// Whether the word says that a page keeps its size, or that it may grow; None where it is neither word.
+pub fn read_rigid(word: &[u8]) -> Option<bool>
+    ensures { MatchOption result (is_choice StiffnessChoice word.now ≡ false) (λ r. word.now ≡ rigid_word r) }
+{
+    let words = Words::<2>::new(&stiffnesses!(words));
+    match stiffnesses!(read words.find(word))? {
+        Stiffness::Soft => Some(false),
+        Stiffness::Rigid => Some(true),
+    }
 }
 
 /// The word of an axis.

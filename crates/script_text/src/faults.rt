@@ -23,8 +23,6 @@ pub enum FaultKind {
     Session,
     /// Its word is that of no command.
     Command,
-    /// Its command is none that this program has yet.
-    NotYet,
     /// Its fields are not those of its command.
     Fields,
 }
@@ -35,6 +33,35 @@ pub struct ScriptFault {
     /// The number of the line, from 1 on: 1 to 2,003.
     pub line: u32,
     pub kind: FaultKind,
+}
+
+/// Why no line is read.
+#[derive(Clone, Copy, Debug, PartialEq, Eq)]
+pub enum LineFault {
+    /// What is wrong with it.
+    Kind(FaultKind),
+    /// Want of memory.
+    Memory,
+}
+
+impl From<FaultKind> for LineFault {
+    ghost use Rattle.script_text.specs.declared.faults.LineFault.TheVariants as no_line;
+
+    ghost from_gives = { λ kind e. e ≡ no_line.Kind kind };
+
+    fn from(kind: FaultKind) -> Self {
+        LineFault::Kind(kind)
+    }
+}
+
+impl From<Memory> for LineFault {
+    ghost use Rattle.script_text.specs.declared.faults.LineFault.TheVariants as no_line;
+
+    ghost from_gives = { λ _ e. e ≡ no_line.Memory };
+
+    fn from(_: Memory) -> Self {
+        LineFault::Memory
+    }
 }
 
 /// Why no script is read.

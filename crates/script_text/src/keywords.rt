@@ -1,7 +1,7 @@
 //! The words of commands: one table for the reader and the printer.
 ghost use Rattle.std.specs.Prelude.{◌≡◌, ◌++◌, OnOk};
-ghost use Rattle.script_text.specs.Keywords.{keyword_word, is_built};
-ghost use Rattle.script_text.specs.Commands.{form_keyword, edit_keyword, is_built_edit};
+ghost use Rattle.script_text.specs.Keywords.{keyword_word};
+ghost use Rattle.script_text.specs.Commands.{form_keyword, edit_keyword};
 ghost use Rattle.script_text.specs.Reading.{keyword_of};
 
 use edit_rules::Edit;
@@ -116,41 +116,4 @@ pub fn edit_keyword(edit: &Edit) -> Keyword
         Edit::Page { .. } => Keyword::Page,
         Edit::Drop { .. } => Keyword::Drop,
     }
-}
-
-/// Whether the program has the command yet.
-fn is_built(keyword: Keyword) -> bool
-    ensures { result ≡ is_built keyword }
-{
-    match keyword {
-        Keyword::Box
-        | Keyword::Oval
-        | Keyword::Diamond
-        | Keyword::Size
-        | Keyword::Move
-        | Keyword::Shift
-        | Keyword::Hold
-        | Keyword::Free
-        | Keyword::Remove
-        | Keyword::Guide
-        | Keyword::Layout
-        | Keyword::Where => true,
-        Keyword::Link
-        | Keyword::Unlink
-        | Keyword::Align
-        | Keyword::Spread
-        | Keyword::Rank
-        | Keyword::Apart
-        | Keyword::Group
-        | Keyword::Page
-        | Keyword::Drop
-        | Keyword::Undo => false,
-    }
-}
-
-/// Whether the program has the command of the edit yet: a script has an edit only where it does.
-pub fn is_built_edit(edit: &Edit) -> bool
-    ensures { result ≡ is_built_edit edit.now }
-{
-    is_built(edit_keyword(edit))
 }

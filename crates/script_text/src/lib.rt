@@ -2,9 +2,9 @@
 #![tactic(auto)]
 
 mod choices;
+mod edits;
 mod faults;
 mod fields;
-mod fitting;
 mod keywords;
 mod lines;
 mod numbers;
@@ -12,10 +12,8 @@ mod pieces;
 mod printing;
 mod reading;
 mod scripts;
-mod slots;
 
 pub use faults::{FaultKind, ReadFault, ScriptFault};
-pub use keywords::is_built_edit;
 pub use printing::{command_text, edit_text, one_spelling, print};
 pub use reading::{one_fault, one_script, read};
 pub use scripts::{Command, Line, Script};

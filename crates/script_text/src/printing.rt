@@ -44,12 +44,20 @@ fn add_names(text: &mut Vec<u8>, names: &[Name]) -> Result<(), AllocError>
     Ok(())
 }
 
+/// The text of a command without fields.
+fn word_text(alloc: Global, keyword: Keyword) -> Result<Vec<u8>, Memory>
+    ensures { IfOk result (λ text. text.items ≡ spaced (keyword_word keyword ∷ [])) }
+{
+    let mut text = Vec::new(alloc);
+    add_keyword(&mut text, keyword)?;
+    Ok(text)
+}
+
 /// The text of a command with a name.
 fn name_text(alloc: Global, keyword: Keyword, name: &Name) -> Result<Vec<u8>, Memory>
     ensures { IfOk result (λ text. text.items ≡ spaced (keyword_word keyword ∷ name.now ∷ [])) }
 {
-    let mut text = Vec::new(alloc);
-    add_keyword(&mut text, keyword)?;
+    let mut text = word_text(alloc, keyword)?;
     add_word(&mut text, name.bytes())?;
     Ok(text)
 }
@@ -212,7 +220,7 @@ fn group_text(alloc: Global, name: &Name, pad: i32, members: &Members) -> Result
     Ok(text)
 }
 
-/// The text of an edit, built or not: its word and its fields, divided by one space, as in a script, without the
+/// The text of an edit: its word and its fields, divided by one space, as in a script, without the
 /// session and without LF.
 pub fn edit_text(alloc: Global, edit: &Edit) -> Result<Vec<u8>, Memory>
     ensures { IfOk result (λ text. text.items ≡ spaced (edit_words edit.now)) }
@@ -283,11 +291,8 @@ pub fn command_text(alloc: Global, command: &Command) -> Result<Vec<u8>, Memory>
 {
     match command {
         Command::Edit(edit) => edit_text(alloc, edit),
-        Command::Layout => {
-            let mut text = Vec::new(alloc);
-            add_keyword(&mut text, Keyword::Layout)?;
-            Ok(text)
-        }
+        Command::Undo => word_text(alloc, Keyword::Undo),
+        Command::Layout => word_text(alloc, Keyword::Layout),
         Command::Where(name) => name_text(alloc, Keyword::Where, name),
     }
 }

@@ -8,7 +8,7 @@ ghost use Rattle.script_text.specs.declared.scripts.Line.{Line};
 ghost use Rattle.script_text.specs.declared.faults.ScriptFault.{ScriptFault as FaultValue};
 ghost use Rattle.script_text.specs.declared.faults.ReadFault.TheVariants as cause;
 
-use crate::faults::{FaultKind, ReadFault, ScriptFault};
+use crate::faults::{FaultKind, LineFault, ReadFault, ScriptFault};
 use crate::lines::line;
 use crate::pieces::Pieces;
 use crate::scripts::{Line, Script};
@@ -62,9 +62,10 @@ fn commands(alloc: Global, lines: &mut Pieces<'_>) -> Result<Vec<Line>, ReadFaul
             close(lines, before)?;
             return Ok(script);
         }
-        let line = match line(before, bytes) {
+        let line = match line(alloc, before, bytes) {
             Ok(line) => line,
-            Err(kind) => return Err(fault(before + 2, kind)),
+            Err(LineFault::Kind(kind)) => return Err(fault(before + 2, kind)),
+            Err(LineFault::Memory) => return Err(ReadFault::Memory),
         };
         script.push(line)?;
     }

@@ -11,6 +11,8 @@ use units::Name;
 pub enum Command {
     /// Edits the diagram.
     Edit(Edit),
+    /// Takes the last edit that stands back.
+    Undo,
     /// Lays the diagram out, once.
     Layout,
     /// Asks where the item of this name stands.
@@ -28,8 +30,8 @@ pub struct Line {
 }
 
 /// A script: its command lines, in order. Its type keeps that it is one: at most 2,000 lines, numbered 2, 3 and
-/// so on without a gap, of sessions 1 to 8, of commands that the program has, with names that are names, numbers of at
-/// most 9 digits, and texts of at most 2,048 bytes. Contracts see the list of lines.
+/// so on without a gap, of sessions 1 to 8, of commands with names that are names, numbers of at most 9 digits, and texts
+/// of at most 2,048 bytes. Contracts see the list of lines.
 #[derive(Drop)]
 pub struct Script {
     lines: Vec<Line>,

@@ -1,7 +1,5 @@
 //! What no clause says: that scripts are read with ample memory, and which near misses are refused.
-use crate::{
-    Command, FaultKind, Line, ReadFault, ScriptFault, command_text, is_built_edit, print, read,
-};
+use crate::{Command, FaultKind, Line, ReadFault, Script, ScriptFault, command_text, print, read};
 use edit_rules::Edit;
 use scene_model::{AlignLine, Form};
 use std::alloc::Global;
@@ -33,45 +31,6 @@ fn line(number: u32, command: Command) -> Line {
         session: 1,
         command,
     }
-}
-
-#[test]
-fn lines_are_read(rt: HostRuntime) -> Result<(), Fail> {
-    let bytes = lines_of(
-        rt.alloc(),
-        "dunnart 1
-        1 oval a 3 4 40 20
-        1 guide g y -200
-        1 shift g 7
-        1 where g
-        1 layout
-        end",
-    )?;
-    let script = read(rt.alloc(), &bytes).ok().ok_or("a script")?;
-    let a = Name::of(b"a").ok_or("a name")?;
-    let name = Name::of(b"g").ok_or("a name")?;
-    let put = Edit::Put {
-        name: a,
-        form: Form::Oval,
-        x: 3,
-        y: 4,
-        w: 40,
-        h: 20,
-    };
-    let guide = Edit::Guide {
-        name,
-        axis: Axis::Y,
-        at: -200,
-    };
-    let lines = [
-        line(2, Command::Edit(put)),
-        line(3, Command::Edit(guide)),
-        line(4, Command::Edit(Edit::Shift { name, at: 7 })),
-        line(5, Command::Where(name)),
-        line(6, Command::Layout),
-    ];
-    assert_eq!(rt; script.lines(), lines.as_slice());
-    Ok(())
 }
 
 /// The bytes of the script that these bytes spell, printed.
@@ -118,6 +77,24 @@ fn scripts_are_read_and_printed(rt: HostRuntime) -> Result<(), Fail> {
         ),
         (
             "dunnart 1
+            1 box a 0 0 10 10
+            1 guide g x 0
+            1 link l a a
+            1 align c g mid a
+            1 spread s y 80 a a23456789012345678901234
+            1 rank r y -1 a g
+            1 apart t x a b 20 exact
+            1 group k 15 a
+            1 page p 0 0 600 800 20 soft
+            1 drop p
+            1 unlink l
+            2 undo
+            2 undo
+            end",
+            13,
+        ),
+        (
+            "dunnart 1
             1 box b_2 -999999999 0 999999999 1
             1 box a23456789012345678901234 1 1 1 1
             end",
@@ -149,7 +126,11 @@ fn faults_have_lines_and_kinds(rt: HostRuntime) -> Result<(), Fail> {
         ("dunnart 1\nend\nx", 3, FaultKind::After),
         ("dunnart 1\n1 layout\nend\n\n", 4, FaultKind::After),
         ("dunnart 1\nend\n1 layout\n", 3, FaultKind::After),
-        ("dunnart 1\n1 layout\n1 undo\nend\n", 3, FaultKind::NotYet),
+        (
+            "dunnart 1\n1 layout\n1 undo\n1 redo\nend\n",
+            4,
+            FaultKind::Command,
+        ),
     ] {
         let answer = count(rt.alloc(), text.as_bytes());
         assert_eq!(rt; answer, Err(fault(line, kind)), "{text}");
@@ -179,20 +160,10 @@ fn lines_are_refused(rt: HostRuntime) -> Result<(), Fail> {
         ("1  layout", FaultKind::Command),
         ("1 bax a 3 4 40 20", FaultKind::Command),
         ("1 Box a 0 0 10 10", FaultKind::Command),
-        ("1 link l a b", FaultKind::NotYet),
-        ("1 unlink l", FaultKind::NotYet),
-        ("1 align c g low a", FaultKind::NotYet),
-        ("1 align c g mid a b", FaultKind::NotYet),
-        ("1 align c g high a b c", FaultKind::NotYet),
-        ("1 spread s y 80 a", FaultKind::NotYet),
-        ("1 rank r x 0 a b c", FaultKind::NotYet),
-        ("1 apart s x a b 20 least", FaultKind::NotYet),
-        ("1 apart s y a b -20 exact", FaultKind::NotYet),
-        ("1 group g 15 a b", FaultKind::NotYet),
-        ("1 page p 0 0 600 800 20 soft", FaultKind::NotYet),
-        ("1 page p 0 0 600 800 20 rigid", FaultKind::NotYet),
-        ("1 drop c", FaultKind::NotYet),
-        ("1 undo", FaultKind::NotYet),
+        ("1 redo", FaultKind::Command),
+        ("1 Undo", FaultKind::Command),
+        ("1 undo\t", FaultKind::Command),
+        ("1 aligns c g mid a", FaultKind::Command),
         ("1 layout ", FaultKind::Fields),
         ("1 box a 3 4 40 20 ", FaultKind::Fields),
         ("1 box a 3 4 40", FaultKind::Fields),
@@ -219,7 +190,10 @@ fn lines_are_refused(rt: HostRuntime) -> Result<(), Fail> {
         ("1 free 2a", FaultKind::Fields),
         ("1 remove a b", FaultKind::Fields),
         ("1 link l a", FaultKind::Fields),
+        ("1 link l a b c", FaultKind::Fields),
+        ("1 link l a b ", FaultKind::Fields),
         ("1 unlink ", FaultKind::Fields),
+        ("1 unlink l m", FaultKind::Fields),
         ("1 guide g z 200", FaultKind::Fields),
         ("1 guide g X 200", FaultKind::Fields),
         ("1 guide g 200 x", FaultKind::Fields),
@@ -227,15 +201,28 @@ fn lines_are_refused(rt: HostRuntime) -> Result<(), Fail> {
         ("1 guide g x 200 1", FaultKind::Fields),
         ("1 align c g middle a", FaultKind::Fields),
         ("1 align c g mid", FaultKind::Fields),
+        ("1 align c g mid ", FaultKind::Fields),
+        ("1 align c g mid a ", FaultKind::Fields),
         ("1 align c g mid a  b", FaultKind::Fields),
+        ("1 align c mid a b", FaultKind::Fields),
         ("1 spread s y 80", FaultKind::Fields),
+        ("1 spread s 80 y a", FaultKind::Fields),
+        ("1 spread s y a b", FaultKind::Fields),
         ("1 rank r x 0 a 1", FaultKind::Fields),
+        ("1 rank r x 00 a", FaultKind::Fields),
         ("1 apart s x a b 20", FaultKind::Fields),
+        ("1 apart s x a b 20 Least", FaultKind::Fields),
         ("1 apart s x a b 20 least b", FaultKind::Fields),
+        ("1 apart s x a 20 exact", FaultKind::Fields),
         ("1 group g a b", FaultKind::Fields),
+        ("1 group g 15", FaultKind::Fields),
         ("1 page p 0 0 600 800 20 hard", FaultKind::Fields),
+        ("1 page p 0 0 600 800 soft", FaultKind::Fields),
+        ("1 page p 0 0 600 800 20 soft 1", FaultKind::Fields),
         ("1 drop -", FaultKind::Fields),
+        ("1 drop c d", FaultKind::Fields),
         ("1 undo a", FaultKind::Fields),
+        ("1 undo 1", FaultKind::Fields),
         ("1 undo ", FaultKind::Fields),
         ("1 where", FaultKind::Fields),
         ("1 where 2a", FaultKind::Fields),
@@ -246,16 +233,16 @@ fn lines_are_refused(rt: HostRuntime) -> Result<(), Fail> {
     Ok(())
 }
 
-/// A script of so many lines `1 layout`, and a line of `1 box ` with so many letters.
-fn long_script(alloc: Global, layouts: usize, letters: usize) -> Result<Vec<u8>, Fail> {
+/// A script of so many lines `1 layout`, and a line of `1 group gg 1` with so many members of one letter.
+fn long_script(alloc: Global, layouts: usize, members: usize) -> Result<Vec<u8>, Fail> {
     let mut text = Vec::from_slice(alloc, b"dunnart 1\n")?;
     for _ in 0..layouts {
         text.extend_from_slice(b"1 layout\n")?;
     }
-    if letters > 0 {
-        text.extend_from_slice(b"1 box ")?;
-        for _ in 0..letters {
-            text.push(b'a')?;
+    if members > 0 {
+        text.extend_from_slice(b"1 group gg 1")?;
+        for _ in 0..members {
+            text.extend_from_slice(b" a")?;
         }
         text.push(b'\n')?;
     }
@@ -265,28 +252,19 @@ fn long_script(alloc: Global, layouts: usize, letters: usize) -> Result<Vec<u8>,
 
 #[test]
 fn long_scripts_are_refused(rt: HostRuntime) -> Result<(), Fail> {
-    for (layouts, letters, read) in [
+    for (layouts, members, read) in [
         (1999, 0, Ok(1999)),
         (2000, 0, Ok(2000)),
         (2001, 0, Err(fault(2002, FaultKind::TooMany))),
-        (0, 2042, Err(fault(2, FaultKind::Fields))),
-        (0, 2043, Err(fault(2, FaultKind::Long))),
-        (2000, 2043, Err(fault(2002, FaultKind::Long))),
+        (0, 1018, Ok(1)),
+        (0, 1019, Err(fault(2, FaultKind::Long))),
+        (2000, 1018, Err(fault(2002, FaultKind::TooMany))),
+        (2000, 1019, Err(fault(2002, FaultKind::Long))),
     ] {
-        let text = long_script(rt.alloc(), layouts, letters)?;
-        assert_eq!(rt; count(rt.alloc(), &text), read, "{layouts} {letters}");
+        let text = long_script(rt.alloc(), layouts, members)?;
+        assert_eq!(rt; count(rt.alloc(), &text), read, "{layouts} {members}");
     }
     Ok(())
-}
-
-/// The texts of the commands, one a line.
-fn texts(alloc: Global, commands: &[Command]) -> Result<Vec<u8>, Fail> {
-    let mut texts = Vec::new(alloc);
-    for command in commands {
-        texts.extend_from_slice(&command_text(alloc, command)?)?;
-        texts.push(b'\n')?;
-    }
-    Ok(texts)
 }
 
 fn put(name: Name, form: Form) -> Command {
@@ -300,52 +278,11 @@ fn put(name: Name, form: Form) -> Command {
     })
 }
 
-#[test]
-fn commands_on_an_item_have_texts(rt: HostRuntime) -> Result<(), Fail> {
-    let alloc = rt.alloc();
-    let name = Name::of(b"b_2").ok_or("a name")?;
-    let commands = [
-        put(name, Form::Box),
-        put(name, Form::Oval),
-        put(name, Form::Diamond),
-        Command::Edit(Edit::Size { name, w: 7, h: -8 }),
-        Command::Edit(Edit::Move { name, x: -7, y: 8 }),
-        Command::Edit(Edit::Shift { name, at: -5 }),
-        Command::Edit(Edit::Hold { name }),
-        Command::Edit(Edit::Free { name }),
-        Command::Edit(Edit::Remove { name }),
-        Command::Edit(Edit::Unlink { name }),
-        Command::Edit(Edit::Drop { name }),
-        Command::Layout,
-        Command::Where(name),
-    ];
-    let wanted = lines_of(
-        alloc,
-        "box b_2 -1000000 0 10000 1
-        oval b_2 -1000000 0 10000 1
-        diamond b_2 -1000000 0 10000 1
-        size b_2 7 -8
-        move b_2 -7 8
-        shift b_2 -5
-        hold b_2
-        free b_2
-        remove b_2
-        unlink b_2
-        drop b_2
-        layout
-        where b_2",
-    )?;
-    assert_eq!(rt; texts(alloc, &commands)?, wanted);
-    assert!(rt; is_built_edit(&Edit::Hold { name }));
-    assert!(rt; !is_built_edit(&Edit::Drop { name }));
-    Ok(())
-}
-
 fn page(name: Name, rigid: bool) -> Command {
     Command::Edit(Edit::Page {
         name,
         x: 1,
-        y: 2,
+        y: -2,
         w: 600,
         h: 800,
         margin: 20,
@@ -353,97 +290,115 @@ fn page(name: Name, rigid: bool) -> Command {
     })
 }
 
-/// The members a and B.
-fn members(alloc: Global) -> Result<Members, Fail> {
-    let a = Name::of(b"a").ok_or("a name")?;
-    let b = Name::of(b"B").ok_or("a name")?;
+fn apart(name: Name, a: Name, b: Name, exact: bool) -> Command {
+    Command::Edit(Edit::Apart {
+        name,
+        axis: Axis::X,
+        a,
+        b,
+        gap: 20,
+        exact,
+    })
+}
+
+/// An alignment of the guideline itself and another item to it.
+fn align(alloc: Global, name: Name, guide: Name, line: AlignLine) -> Result<Command, Fail> {
+    Ok(Command::Edit(Edit::Align {
+        name,
+        guide,
+        line,
+        members: members(alloc, guide, name)?,
+    }))
+}
+
+fn members(alloc: Global, a: Name, b: Name) -> Result<Members, Fail> {
     Ok(Members::of(vec![in alloc; a, b]?).ok_or("two members")?)
 }
 
+/// The script with this one line.
+fn one_line(alloc: Global, text: &str) -> Result<Script, Fail> {
+    let bytes = format!(in alloc; "dunnart 1\n1 {text}\nend\n")?;
+    Ok(read(alloc, bytes.as_bytes()).ok().ok_or("a script")?)
+}
+
 #[test]
-fn commands_on_several_items_have_texts(rt: HostRuntime) -> Result<(), Fail> {
+fn commands_are_printed_and_read_back(rt: HostRuntime) -> Result<(), Fail> {
     let alloc = rt.alloc();
-    let name = Name::of(b"c").ok_or("a name")?;
-    let (a, b) = (
-        Name::of(b"a").ok_or("a name")?,
-        Name::of(b"B").ok_or("a name")?,
-    );
-    let commands = [
-        Command::Edit(Edit::Guide {
-            name,
-            axis: Axis::X,
-            at: 200,
-        }),
-        Command::Edit(Edit::Align {
-            name,
-            guide: a,
-            line: AlignLine::Low,
-            members: members(alloc)?,
-        }),
-        Command::Edit(Edit::Align {
-            name,
-            guide: a,
-            line: AlignLine::Mid,
-            members: members(alloc)?,
-        }),
-        Command::Edit(Edit::Align {
-            name,
-            guide: a,
-            line: AlignLine::High,
-            members: members(alloc)?,
-        }),
-        Command::Edit(Edit::Spread {
-            name,
-            axis: Axis::Y,
-            gap: 80,
-            members: members(alloc)?,
-        }),
-        Command::Edit(Edit::Rank {
-            name,
-            axis: Axis::X,
-            gap: -1,
-            members: members(alloc)?,
-        }),
-        Command::Edit(Edit::Apart {
-            name,
-            axis: Axis::X,
-            a,
-            b,
-            gap: 20,
-            exact: false,
-        }),
-        Command::Edit(Edit::Apart {
-            name,
-            axis: Axis::Y,
-            a,
-            b,
-            gap: -20,
-            exact: true,
-        }),
-        Command::Edit(Edit::Group {
-            name,
-            pad: 15,
-            members: members(alloc)?,
-        }),
-        page(name, false),
-        page(name, true),
-        Command::Edit(Edit::Join { name, a, b }),
-    ];
-    let wanted = lines_of(
-        alloc,
-        "guide c x 200
-        align c a low a B
-        align c a mid a B
-        align c a high a B
-        spread c y 80 a B
-        rank c x -1 a B
-        apart c x a B 20 least
-        apart c y a B -20 exact
-        group c 15 a B
-        page c 1 2 600 800 20 soft
-        page c 1 2 600 800 20 rigid
-        link c a B",
-    )?;
-    assert_eq!(rt; texts(alloc, &commands)?, wanted);
+    let name = Name::of(b"c_2").ok_or("a name")?;
+    let a = Name::of(b"a").ok_or("a name")?;
+    let b = Name::of(b"B").ok_or("a name")?;
+    let edit = |edit: Edit| Command::Edit(edit);
+    for (text, command) in [
+        ("box c_2 -1000000 0 10000 1", put(name, Form::Box)),
+        ("oval c_2 -1000000 0 10000 1", put(name, Form::Oval)),
+        ("diamond c_2 -1000000 0 10000 1", put(name, Form::Diamond)),
+        ("size c_2 7 -8", edit(Edit::Size { name, w: 7, h: -8 })),
+        ("move c_2 -7 8", edit(Edit::Move { name, x: -7, y: 8 })),
+        ("shift c_2 -5", edit(Edit::Shift { name, at: -5 })),
+        ("hold c_2", edit(Edit::Hold { name })),
+        ("free c_2", edit(Edit::Free { name })),
+        ("remove c_2", edit(Edit::Remove { name })),
+        ("link c_2 a B", edit(Edit::Join { name, a, b })),
+        ("unlink c_2", edit(Edit::Unlink { name })),
+        (
+            "guide c_2 y 200",
+            edit(Edit::Guide {
+                name,
+                axis: Axis::Y,
+                at: 200,
+            }),
+        ),
+        (
+            "align c_2 a low a c_2",
+            align(alloc, name, a, AlignLine::Low)?,
+        ),
+        (
+            "align c_2 a mid a c_2",
+            align(alloc, name, a, AlignLine::Mid)?,
+        ),
+        (
+            "align c_2 a high a c_2",
+            align(alloc, name, a, AlignLine::High)?,
+        ),
+        (
+            "spread c_2 y 80 a B",
+            edit(Edit::Spread {
+                name,
+                axis: Axis::Y,
+                gap: 80,
+                members: members(alloc, a, b)?,
+            }),
+        ),
+        (
+            "rank c_2 x -1 B a",
+            edit(Edit::Rank {
+                name,
+                axis: Axis::X,
+                gap: -1,
+                members: members(alloc, b, a)?,
+            }),
+        ),
+        ("apart c_2 x a B 20 least", apart(name, a, b, false)),
+        ("apart c_2 x B a 20 exact", apart(name, b, a, true)),
+        (
+            "group c_2 15 a B",
+            edit(Edit::Group {
+                name,
+                pad: 15,
+                members: members(alloc, a, b)?,
+            }),
+        ),
+        ("page c_2 1 -2 600 800 20 soft", page(name, false)),
+        ("page c_2 1 -2 600 800 20 rigid", page(name, true)),
+        ("drop c_2", edit(Edit::Drop { name })),
+        ("undo", Command::Undo),
+        ("layout", Command::Layout),
+        ("where c_2", Command::Where(name)),
+    ] {
+        let printed = command_text(alloc, &command)?;
+        assert_eq!(rt; printed.as_slice(), text.as_bytes());
+        let script = one_line(alloc, text)?;
+        assert_eq!(rt; script.lines(), [line(2, command)].as_slice(), "{text}");
+    }
     Ok(())
 }

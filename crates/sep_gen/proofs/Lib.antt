@@ -5,3 +5,6 @@ pub mod Examples
 pub mod Indexing
 pub mod Meanings
 pub mod Pushing
+pub mod Thinning
+pub mod Unchanged
+pub mod Without

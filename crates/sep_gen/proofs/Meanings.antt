@@ -7,7 +7,7 @@ use Rattle.std.proofs.lemmas.Int.{ints}
 use Rattle.std.proofs.lemmas.List.Elements.{All-from_recursion, recursion_from_All}
 use Rattle.std.proofs.Math.IntN.{*ℤ-zero, *ℤ_comm, suc_ℤ-*ℤ}
 use Rattle.units.specs.declared.geometry.Axis.{Axis}
-use Rattle.units.specs.Separation.{IsApart, Satisfies}
+use Rattle.units.specs.Separation.{IsApart, Satisfies, SatisfiesAll}
 use Rattle.scene_model.specs.declared.items.Rule.{Rule}
 use Rattle.scene_model.specs.declared.items.Rule.TheVariants as rule
 use Rattle.scene_model.specs.declared.items.Shape.{Shape}
@@ -132,16 +132,27 @@ module _ (d : Diagram) (axis : Axis) (places : List ℤ) (q : ℕ) where
 
 -- ---- the whole list
 
-pub fits_where_satisfied : (d : Diagram) (axis : Axis) (places : List ℤ) (q : ℕ) → FitsWhereSatisfied d axis places q
-fits_where_satisfied d axis places q above as_long =
+-- the placement meets each compound, each group and the page
+abbrev pub MeetsAll : Diagram → Axis → List ℤ → ℕ → Type 0
+MeetsAll d axis places q =
+    AllByRecursion (MeetsCompound d axis places q) d.compounds × AllByRecursion (MeetsGroup d axis places q) d.groups × AllByRecursion (MeetsPage d axis places q) d.pages
+
+-- it does exactly where it satisfies each separation, however long it is
+pub meets_where_satisfied : (d : Diagram) (axis : Axis) (places : List ℤ) (q : ℕ) → MeetsAll d axis places q ↔ SatisfiesAll places q (separations d axis)
+meets_where_satisfied d axis places q =
     let compounds = all_flat_map (MeetsCompound d axis places q) (Satisfies places q) (compound_separations d axis) (λ (c : Compound). rule_law d axis places q c.rule) d.compounds in
     let groups = all_flat_map (MeetsGroup d axis places q) (Satisfies places q) (group_separations d axis) (group_law d axis places q) d.groups in
     let pages = all_flat_map (MeetsPage d axis places q) (Satisfies places q) (page_separations d axis) (page_law d axis places q) d.pages in
     let behind = all_append (Satisfies places q) (flat_map (group_separations d axis) d.groups) (flat_map (page_separations d axis) d.pages) in
     let whole = all_append (Satisfies places q) (flat_map (compound_separations d axis) d.compounds) (flat_map (group_separations d axis) d.groups ++ flat_map (page_separations d axis) d.pages) in (
-      λ f. All-from_recursion (Satisfies places q) (separations d axis) (whole.0 (compounds.0 f.compounds, behind.0 (groups.0 f.groups, pages.0 f.pages))),
+      λ f. All-from_recursion (Satisfies places q) (separations d axis) (whole.0 (compounds.0 f.0, behind.0 (groups.0 f.1, pages.0 f.2))),
       λ s.
           let front = whole.1 (recursion_from_All (Satisfies places q) (separations d axis) s) in
           let back = behind.1 front.1 in
-          record { above = above; as_long = as_long; compounds = compounds.1 front.0; groups = groups.1 back.0; pages = pages.1 back.1 },
+          (compounds.1 front.0, groups.1 back.0, pages.1 back.1),
     )
+
+pub fits_where_satisfied : (d : Diagram) (axis : Axis) (places : List ℤ) (q : ℕ) → FitsWhereSatisfied d axis places q
+fits_where_satisfied d axis places q above as_long =
+    let all = meets_where_satisfied d axis places q in
+    (λ f. all.0 (f.compounds, f.groups, f.pages), λ s. let met = all.1 s in record { above = above; as_long = as_long; compounds = met.0; groups = met.1; pages = met.2 })

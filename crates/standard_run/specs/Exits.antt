@@ -1,8 +1,9 @@
 -- The exit status of the process.
-use Rattle.std.specs.Prelude.{◌≡◌, ℕ, Option}
+use Rattle.std.specs.Prelude.{◌≡◌, ℕ, List, Option}
+use Rattle.command_line.specs.Plans.{plan_of}
+use Rattle.command_line.specs.declared.plans.Plan.{Plan}
 use Rattle.editor_run.specs.declared.outcome.Fault.{Fault}
 use Rattle.editor_run.specs.declared.outcome.Outcome.{Outcome}
-use Rattle.editor_run.specs.declared.plan.Plan.{Plan}
 use Rattle.editor_run.specs.Ends.{Reading, Writing}
 use Rattle.editor_run.specs.Outcomes.{status_or_zero}
 use Rattle.editor_run.specs.Runs.{IsRun, HasCauses}
@@ -17,3 +18,8 @@ pub record ExitsAsRun (plan : Plan) (reading : Reading) (writing : Writing) (Sin
   pub status_is : status ≡ outcome.status
   pub run : IsRun plan reading writing outcome
   pub causes : HasCauses plan reading writing SinkKept outcome
+
+-- the exit status is that of a run by the plan that some words ask for: those of the process, of which std tells nothing
+pub record ExitsByWords (reading : Reading) (writing : Writing) (SinkKept : Type 0) (status : ℕ) : Type 0 where
+  pub words : List (List ℕ)
+  pub exits : ExitsAsRun (plan_of words) reading writing SinkKept status

@@ -6,12 +6,32 @@ ghost use Rattle.editor_run.specs.declared.outcome.Fault.TheVariants as fault;
 ghost use Rattle.editor_run.specs.Outcomes.{status_of};
 
 use editor_run::Fault;
+use std::alloc::AllocError;
 use std::io::{Eprint, ErrorKind};
 use std::process::ExitCode;
 
 /// Prints the fault to standard error, with a line feed behind it. Whether it is printed changes nothing.
 pub fn print_fault<R: Eprint>(rt: &R, fault: Fault) {
     let _ = eprintln!(rt; "{fault}");
+}
+
+/// Prints to standard error why words are refused: the help as clap has it, where that is what clap tells; else, as where
+/// there is no memory for it, the fault.
+pub fn print_refusal<R: Eprint>(rt: &R, refusal: Result<Option<String>, AllocError>) {
+    match refusal {
+        Ok(Some(text)) => print_help(rt, &text),
+        Ok(None) => print_fault(rt, Fault::Words),
+        Err(_) => print_fault(rt, Fault::Words),
+    }
+}
+
+/// Prints the text where it is the help, which doesn't begin as clap's errors do; else the fault.
+fn print_help<R: Eprint>(rt: &R, text: &String) {
+    if text.as_bytes().starts_with(b"error:".as_slice()) {
+        print_fault(rt, Fault::Words);
+    } else {
+        let _ = eprint!(rt; "{text}");
+    }
 }
 
 /// Ends a run whose words couldn't be had.

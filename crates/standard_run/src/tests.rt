@@ -1,8 +1,11 @@
 //! What no clause says: worked scripts from bytes to bytes, statuses with their texts, and one failing call of each end.
+mod layouts;
 mod rows;
 
 use byte_edge::{MemSink, MemSource, Sink, Source, StdSink, StdSource, SureSink, SureSource};
-use editor_run::{Fault, Plan, run, run_alone};
+use command_line::Plan;
+use editor_run::{Fault, run, run_alone};
+use layouts::*;
 use rows::*;
 use script_text::{FaultKind, ScriptFault};
 use std::alloc::{AllocError, Global};
@@ -62,7 +65,6 @@ fn worked_scripts(rt: HostRuntime) -> Result<(), Fail> {
         (FIRST_BOX, FIRST_BOX_LISTING),
         (EMPTY, EMPTY_LISTING),
         (TWO_SESSIONS, TWO_SESSIONS_LISTING),
-        (MOVED_AFTER_FRAME, MOVED_AFTER_FRAME_LISTING),
         (ASKED_TWICE, ASKED_TWICE_LISTING),
         (READ_BACK, READ_BACK_LISTING),
         (OUT_OF_RANGE, OUT_OF_RANGE_LISTING),
@@ -71,6 +73,132 @@ fn worked_scripts(rt: HostRuntime) -> Result<(), Fail> {
         prints(&rt, script, listing)?;
     }
     Ok(())
+}
+
+#[test]
+fn worked_layouts(rt: HostRuntime) -> Result<(), Fail> {
+    for (script, listing) in [
+        (TWO_APART, TWO_APART_LISTING),
+        (CHAIN_OF_THREE, CHAIN_OF_THREE_LISTING),
+        (DROPPED_SEPARATION, DROPPED_SEPARATION_LISTING),
+        (FIRST_SEPARATION_ALONE, FIRST_SEPARATION_ALONE_LISTING),
+        (HELD_SHAPE, HELD_SHAPE_LISTING),
+        (ALIGN_MID, ALIGN_MID_LISTING),
+        (LINKED_PAIR, LINKED_PAIR_LISTING),
+        (COINCIDENT_PAIR, COINCIDENT_PAIR_LISTING),
+        (GROUP, GROUP_LISTING),
+        (SOFT_PAGE, SOFT_PAGE_LISTING),
+        (MOVED_AFTER_FRAME, MOVED_AFTER_FRAME_LISTING),
+        (UNDO, UNDO_LISTING),
+        (ASKED_OF_A_LINK, ASKED_OF_A_LINK_LISTING),
+    ] {
+        prints(&rt, script, listing)?;
+    }
+    Ok(())
+}
+
+/// Whether the bytes have the part somewhere.
+fn has(bytes: &[u8], part: &[u8]) -> bool {
+    for at in 0..bytes.len() {
+        if bytes[at..].starts_with(part) {
+            return true;
+        }
+    }
+    false
+}
+
+/// Plays the script, whose listing isn't determined, and looks for a part that is.
+fn shows<R: AllocGlobal>(rt: &R, script: &[u8], part: &[u8]) -> Result<(), Fail> {
+    let alloc = rt.alloc();
+    let mut sink = SureSink::new(alloc);
+    let end = played(rt, script.to_vec(alloc)?, &mut sink);
+    if end.status != 0 {
+        return Err("status 0".into());
+    }
+    if !has(sink.bytes(), part) {
+        return Err("the part".into());
+    }
+    Ok(())
+}
+
+/// Multipliers and walks that may be told in more than one way.
+#[test]
+fn layouts_with_a_free_part(rt: HostRuntime) -> Result<(), Fail> {
+    shows(&rt, TIGHT_CYCLE, b"4 1 6 frame\nx a 0 -5\nx b 0 5\nx #0 ")?;
+    shows(
+        &rt,
+        POSITIVE_CYCLE,
+        b"1 5 apart t x b a -9 least = refused 3 infeasible x #",
+    )?;
+    shows(
+        &rt,
+        RIGID_PAGE,
+        b"1 6 page p 0 0 100 100 0 rigid = refused 4 infeasible x #",
+    )?;
+    shows(
+        &rt,
+        RIGID_PAGE,
+        b"1 7 page p 0 0 120 100 0 rigid = accepted 4\n",
+    )
+}
+
+/// The sum by which the long listing is known (the 64 bits of FNV-1a).
+fn checksum(bytes: &[u8]) -> u64 {
+    let mut sum: u64 = 0xcbf2_9ce4_8422_2325;
+    for byte in bytes {
+        sum = (sum ^ u64::from(*byte)).wrapping_mul(0x0100_0000_01b3);
+    }
+    sum
+}
+
+#[test]
+fn flow_chart(rt: HostRuntime) -> Result<(), Fail> {
+    let alloc = rt.alloc();
+    let mut sink = SureSink::new(alloc);
+    let end = played(&rt, FLOW_CHART.to_vec(alloc)?, &mut sink);
+    assert_eq!(rt; end.status, 0);
+    assert_eq!(rt; sink.bytes().len(), 26_604);
+    assert_eq!(rt; checksum(sink.bytes()), 0x3c0a_9216_25b2_6063);
+    Ok(())
+}
+
+/// Runs by these words over the script, which prints the text.
+fn prints_by<R: AllocGlobal>(
+    rt: &R,
+    words: &[&str],
+    script: &[u8],
+    text: &[u8],
+) -> Result<(), Fail> {
+    let alloc = rt.alloc();
+    let mut source = SureSource::new(script.to_vec(alloc)?);
+    let mut sink = SureSink::new(alloc);
+    let end = end_of(rt, owned(alloc, words)?, &mut source, &mut sink);
+    if end.status != 0 {
+        return Err("status 0".into());
+    }
+    if sink.bytes() != text {
+        return Err("the text".into());
+    }
+    Ok(())
+}
+
+#[test]
+fn outputs_by_the_words(rt: HostRuntime) -> Result<(), Fail> {
+    prints_by(&rt, &["dunnart", "--svg"], FIRST_BOX, FIRST_BOX_PICTURE)?;
+    prints_by(
+        &rt,
+        &["dunnart", "--frames", "0"],
+        FIRST_BOX,
+        NO_FRAMES_LISTING,
+    )
+}
+
+// The sums of accepted and refused lines and the spans are known from an independent program.
+#[test]
+fn made_scripts(rt: HostRuntime) -> Result<(), Fail> {
+    prints_by(&rt, &["dunnart", "--make", "1"], b"", MADE_ONE)?;
+    prints_by(&rt, &["dunnart", "--make=2", "--svg"], b"", MADE_TWO)?;
+    prints_by(&rt, &["dunnart", "--make", "3"], b"", MADE_THREE)
 }
 
 /// The status of a run without frames before End.
@@ -102,12 +230,12 @@ fn no_frames(rt: HostRuntime) -> Result<(), Fail> {
 fn texts_of_faults(rt: HostRuntime) -> Result<(), Fail> {
     let script = ScriptFault {
         line: 12,
-        kind: FaultKind::NotYet,
+        kind: FaultKind::Fields,
     };
     for (fault, text) in [
         (Fault::Words, "words refused"),
         (Fault::Source, "source failed"),
-        (Fault::Script(script), "line 12: NotYet"),
+        (Fault::Script(script), "line 12: Fields"),
         (Fault::Memory, "no memory"),
         (Fault::Sink, "sink failed"),
         (Fault::Long, "input too long"),
@@ -144,7 +272,7 @@ fn long_line(alloc: Global) -> Result<Vec<u8>, AllocError> {
 fn many_lines(alloc: Global) -> Result<Vec<u8>, AllocError> {
     let mut script = Vec::from_slice(alloc, b"dunnart 1\n")?;
     for _ in 0..2_001 {
-        script.extend_from_slice(b"1 layout\n")?;
+        script.extend_from_slice(b"1 undo\n")?;
     }
     script.extend_from_slice(b"end\n")?;
     Ok(script)
@@ -157,7 +285,6 @@ fn faulty_scripts(rt: HostRuntime) -> Result<(), Fail> {
         (b"dunnart 1\n1 box a 0".as_slice(), "3 line 2: Cut"),
         (FIRST_BOX_WITHOUT_END, "3 line 5: Missing"),
         (b"dunnart 1\n\xff\nend\n", "3 line 2: Session"),
-        (b"dunnart 1\n1 undo\nend\n", "3 line 2: NotYet"),
         (b"", "3 line 1: Missing"),
         (b"dunnart 1\r\n1 undo\nend\n", "3 line 1: Header"),
         (b"dunnart 1\n9 undo\nend\n", "3 line 2: Session"),

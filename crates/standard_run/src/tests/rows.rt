@@ -73,42 +73,6 @@ replies
 done
 ";
 
-// A shape stands where it was moved to, and the answer shows the move.
-pub const MOVED_AFTER_FRAME: &[u8] = b"\
-dunnart 1
-1 box a 0 0 10 10
-1 box b 4 0 10 10
-1 layout
-1 move a 0 0
-1 where a
-end
-";
-
-pub const MOVED_AFTER_FRAME_LISTING: &[u8] = b"\
-listing 1
-0 1 2 box a 0 0 10 10
-1 1 3 box b 4 0 10 10
-2 1 4 frame
-x a 0 0
-x b 4 4
-y a 0 0
-y b 0 0
-3 1 5 move a 0 0
-4 0 0 end
-5 0 0 frame
-x a 0 0
-x b 4 4
-y a 0 0
-y b 0 0
-replies
-1 2 box a 0 0 10 10 = accepted 0
-1 3 box b 4 0 10 10 = accepted 1
-1 4 layout = published 2
-1 5 move a 0 0 = accepted 3
-1 6 where a = at 0 0 4
-done
-";
-
 // A name that doesn't stand yet, then one that another session put.
 pub const ASKED_TWICE: &[u8] = b"\
 dunnart 1
@@ -263,4 +227,39 @@ pub const LARGE_NUMBER: &[u8] = b"\
 dunnart 1
 1 box a 0 0 10 1000000000
 end
+";
+
+/// The picture of the first box.
+pub const FIRST_BOX_PICTURE: &[u8] = b"\
+<svg xmlns=\"http://www.w3.org/2000/svg\" viewBox=\"-7 -6 60 40\">
+<rect class=\"shape\" x=\"3\" y=\"4\" width=\"40\" height=\"20\" fill=\"white\" stroke=\"black\"/>
+<text x=\"23\" y=\"14\" text-anchor=\"middle\">a</text>
+</svg>
+";
+
+pub const MADE_ONE: &[u8] = b"\
+made 1
+lines 344
+accepted 335
+refused 0
+frames 73
+span 1507 1227
+";
+
+pub const MADE_TWO: &[u8] = b"\
+made 2
+lines 344
+accepted 335
+refused 0
+frames 73
+span 815 1776
+";
+
+pub const MADE_THREE: &[u8] = b"\
+made 3
+lines 344
+accepted 333
+refused 2
+frames 73
+span 1226 1900
 ";

@@ -5,7 +5,7 @@ use Rattle.editor_run.proofs.Settling.{FinishesFrom-start, FinishesFrom-once, Fi
 use Rattle.editor_run.proofs.finishing.finish_all.Goals as goal
 
 pub loop-init : goal.loop-init
-loop-init c = FinishesFrom-start c.args.book.now c.requires.ended c.requires.last c.requires.free
+loop-init c = FinishesFrom-start c.args.book.now c.requires.ended c.requires.last
 
 pub loop-smaller : goal.loop-smaller
 loop-smaller c =

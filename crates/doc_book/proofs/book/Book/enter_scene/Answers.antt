@@ -1,23 +1,40 @@
-use Rattle.std.proofs.Common.{List, ap, sym, ◌∙◌, subst, false, None}
+use Rattle.std.proofs.Common.{◌≡◌, List, [], ◌∷◌, ◌++◌, None, ap, sym, ◌∙◌, subst, false}
 use Rattle.scene_model.specs.Diagram.{Diagram}
-use Rattle.edit_rules.specs.Effects.{edited}
-use Rattle.doc_book.specs.History.{scene_at}
-use Rattle.doc_book.specs.Document.{Document}
-use Rattle.doc_book.specs.Kept.{IsKept}
+use Rattle.scene_model.specs.Sound.{IsSound}
+use Rattle.edit_rules.specs.declared.edits.Edit.{Edit}
+use Rattle.edit_rules.specs.Effects.{edited, scene_of}
+use Rattle.frame_store.specs.Carry.{carried}
+use Rattle.doc_book.specs.declared.entries.Act.TheVariants as act
 use Rattle.doc_book.specs.declared.entries.Entry.{Entry}
-use Rattle.doc_book.specs.Verdicts.{cause_at, IsFeasibility}
-use Rattle.doc_book.proofs.Keeping.{IsKept-edit}
-use Rattle.doc_book.proofs.Refusing.{uncaused}
+use Rattle.doc_book.specs.Document.{Document}
+use Rattle.doc_book.specs.History.{scene_at}
+use Rattle.doc_book.specs.Growing.{entry_of}
+use Rattle.doc_book.specs.Verdicts.{IsVerdict}
+use Rattle.doc_book.proofs.Refusing.{not_closed}
+use Rattle.doc_book.specs.Kept.{IsBook}
+use Rattle.doc_book.proofs.Booking.{stand_short, IsBook-edit}
 use Rattle.doc_book.proofs.book.Book.enter_scene.Goals as goal
+
+pub push-requires-clause-few : goal.push-requires-clause-few
+push-requires-clause-few c =
+    let h = c.self.inside.history.items in
+    let accepted = subst (λ (d : Document). IsVerdict d.history c.args.edit None) (sym c.self.view_is) c.requires.verdict in
+    stand_short h c.self.inside.budget c.self.inside.stand c.self.inside.places c.self.inside.settled c.self.invariant (not_closed h c.args.edit accepted)
 
 pub invariant_of-self-2 : goal.invariant_of-self-2
 invariant_of-self-2 c =
     let h = c.self.inside.history.items in
-    let same = ap (λ (d : Document). scene_at d.history) (sym c.self.view_is) in
-    let none = ap (λ (d : Document). cause_at d.history c.args.edit) c.self.view_is ∙ c.requires.uncaused in
-    let whole = c.requires.feasible.is ∙ ap (edited c.args.edit) same in
-    let feasible = subst (λ (d : Diagram). IsFeasibility d None) whole c.requires.feasible.feasible in
-    let scene_is = whole ∙ ap (edited c.args.edit) (sym c.self.invariant.scene_is) in
-    subst (λ (items : List Entry). IsKept items c.self.inside.budget c.args.scene c.in_ok-places.places false) (sym c.in_ok-push.ensures.items)
-    (IsKept-edit h c.self.inside.budget c.self.inside.scene c.self.inside.places c.self.inside.settled c.args.who c.args.line c.args.edit
-    c.args.scene c.in_ok-places.places c.self.invariant c.requires.links (uncaused h c.args.edit None none feasible) scene_is c.requires.feasible.uncrowded c.in_ok-places.ensures)
+    let stand = c.self.inside.stand in
+    let accepted = subst (λ (d : Document). IsVerdict d.history c.args.edit None) (sym c.self.view_is) c.requires.verdict in
+    let whole : c.args.scene.now ≡ edited c.args.edit (scene_of stand) =
+    c.requires.scene ∙ ap (edited c.args.edit) (ap (λ (d : Document). scene_at d.history) (sym c.self.view_is) ∙ sym c.self.invariant.kept.scene_is) in
+    let stand_is = c.in_ok-push.ensures.pushed ∙ ap (λ (e : Edit). stand ++ e ∷ []) c.in_ok-copy.ensures in
+    let places_are =
+    c.in_ok-places.ensures
+    ∙ ap (λ (d : Diagram). carried d c.args.scene.now c.self.inside.places) c.scene-2.ensures
+    ∙ ap (λ (d : Diagram). carried (scene_of stand) d c.self.inside.places) whole in
+    let items =
+    c.add.ensures ∙ ap (λ (es : List Entry). es ++ entry_of c.args.who c.args.line (act.Edit c.args.edit) ∷ []) c.in_ok-reserve.ensures.items in
+    subst (λ (es : List Entry). IsBook es c.self.inside.budget c.push.new.self c.in_ok-places.places false) (sym items)
+    (IsBook-edit h c.self.inside.budget stand c.self.inside.places c.self.inside.settled c.args.who c.args.line c.args.edit c.push.new.self c.in_ok-places.places
+    c.self.invariant accepted (subst IsSound c.scene.ensures c.count-sound.ensures.sound) stand_is places_are)

@@ -1,5 +1,0 @@
-use Rattle.doc_book.proofs.Refusing.{never_both}
-use Rattle.doc_book.proofs.law.verdict_law.Goals as goal
-
-pub returns : goal.returns
-returns c = never_both

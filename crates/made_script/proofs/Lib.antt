@@ -1,0 +1,5 @@
+pub mod Remainders
+pub mod Names
+pub mod Short
+pub mod Fine
+pub mod Folding

@@ -1,0 +1,8 @@
+//! Sessions: the lines of a script, played on a document.
+#![tactic(auto)]
+
+mod alone;
+mod answering;
+mod laying;
+
+pub use alone::play_alone;

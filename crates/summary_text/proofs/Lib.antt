@@ -1,0 +1,3 @@
+pub mod LastFrames
+pub mod Nearness
+pub mod Whole

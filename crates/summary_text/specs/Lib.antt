@@ -1,0 +1,3 @@
+pub mod LastFrame
+pub mod Counts
+pub mod Summary

@@ -1,0 +1,7 @@
+//! The summary of the run on a made script.
+#![tactic(auto)]
+
+mod counting;
+mod summary;
+
+pub use summary::write_summary;
