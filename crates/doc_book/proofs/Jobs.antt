@@ -50,7 +50,7 @@ pub IsJobOf-step : (old new : Document) (call : Event) (said : Said) (front : �
 IsJobOf-step old new call said front scene places is job =
     let adds = step_adds old new call said is in
     let grows = adds_prefix old new call (place_made said) adds in
-    subst (λ (h : List Entry). IsJobOf h new.budget front scene places) (sym grows.1)
+    subst (λ (h : List Entry). IsJobOf h new.budget front scene places) grows.1
     (subst (λ (b : ℕ). IsJobOf (old.history ++ grows.0) b front scene places) (sym (adds_budget old new call (place_made said) adds))
     (IsJobOf-append old.history grows.0 old.budget front scene places job))
 

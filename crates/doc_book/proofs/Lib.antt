@@ -1,4 +1,5 @@
 pub mod Booking
+pub mod ByOne
 pub mod Drawn
 pub mod EndPlace
 pub mod Feasible

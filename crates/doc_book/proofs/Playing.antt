@@ -13,7 +13,7 @@ use Rattle.doc_book.specs.declared.replies.Reply.{Reply}
 use Rattle.doc_book.specs.declared.replies.Reply.TheVariants as reply
 use Rattle.doc_book.specs.Document.{Document}
 use Rattle.doc_book.specs.Events.{Event, Edits, Undoes, Asks, Looks, Publishes, Ends, Finishes, Said, Replied, Found, caller_of, place_made}
-use Rattle.doc_book.specs.Law.{IsPrefix}
+use mathlib.Core.List.{IsPrefix}
 use Rattle.doc_book.specs.Listing.{session_lines}
 use Rattle.doc_book.specs.Plays.{IsLaidOut, IsPlayedAs, IsPlayedLine, IsPlayed, session_replies, all_replies, IsByCalls, IsFresh, AreCounted}
 use Rattle.doc_book.specs.Replies.{IsRightReply, AreRightReplies, made_places, own_places, from_of, after_of}
@@ -199,7 +199,7 @@ plays_line old new line r is = plays_as old new line.number line.session line.co
 -- ---- all lines
 
 pub played_prefix : (old new : Document) (ls : List Line) (rs : List Reply) → IsPlayed old new ls rs → IsPrefix old.history new.history
-played_prefix old new [] [] is = ([], ap (λ (d : Document). d.history) is ∙ sym (append-nil old.history))
+played_prefix old new [] [] is = ([], append-nil old.history ∙ sym (ap (λ (d : Document). d.history) is))
 played_prefix old new [] (r ∷ rs) is = absurd is
 played_prefix old new (l ∷ ls) [] is = absurd is
 played_prefix old new (l ∷ ls) (r ∷ rs) is =
@@ -261,7 +261,7 @@ played_right old new (l ∷ ls) (r ∷ rs) session seen is le =
         → AreRightReplies new.history old.budget session seen (cond b (l ∷ session_lines session ls) (session_lines session ls)) (cond b (r ∷ session_replies session ls rs) (session_replies session ls rs))
     by true same rest = (
       subst (λ (who : ℕ). IsRightReply new.history old.budget who seen l r) (grind (arith, same))
-          (subst (λ (h : List Entry). IsRightReply h old.budget l.session seen l r) (sym grows.1)
+          (subst (λ (h : List Entry). IsRightReply h old.budget l.session seen l r) grows.1
           (IsRightReply-append is.0.history grows.0 old.budget l.session seen l r (line.right seen))),
       omega (arith, le, line.from),
       rest (after_of r) (omega (arith, after_from r, line.from, line.longer)),

@@ -9,7 +9,8 @@ use Rattle.doc_book.specs.declared.replies.Reply.{Reply}
 use Rattle.doc_book.specs.declared.replies.Reply.TheVariants as reply
 use Rattle.doc_book.specs.Document.{Document}
 use Rattle.doc_book.specs.Events.{Event, Said, Replied, Found, Settled, Full, Memory, caller_of, line_of, seen_before, replies_in, replies_to, place_made, made_calls}
-use Rattle.doc_book.specs.Law.{IsPrefix, IsRightSaid, AreRightSaid, AreEntriesOf}
+use mathlib.Core.List.{IsPrefix}
+use Rattle.doc_book.specs.Law.{IsRightSaid, AreRightSaid, AreEntriesOf}
 use Rattle.doc_book.specs.Legal.{IsLegal}
 use Rattle.doc_book.specs.Replies.{IsRightReply, own_entries, made_places, own_places}
 use Rattle.doc_book.specs.Steps.{IsRun}
@@ -26,8 +27,8 @@ adds_legal old new call (Some place) adds legal =
     subst (λ (d : Document). IsLegal d.history d.budget) (sym adds.grows.entered) (IsLegal-push old.history old.budget adds.entry legal adds.legal)
 
 pub adds_prefix : (old new : Document) (call : Event) (o : Option ℕ) → MatchOption o (new ≡ old) (λ place. Adds old new place call) → IsPrefix old.history new.history
-adds_prefix old new call None same = ([], ap (λ (d : Document). d.history) same ∙ sym (append-nil old.history))
-adds_prefix old new call (Some place) adds = (adds.entry ∷ [], grown old new place adds.entry adds.grows)
+adds_prefix old new call None same = ([], append-nil old.history ∙ sym (ap (λ (d : Document). d.history) same))
+adds_prefix old new call (Some place) adds = (adds.entry ∷ [], sym (grown old new place adds.entry adds.grows))
 
 pub adds_budget : (old new : Document) (call : Event) (o : Option ℕ) → MatchOption o (new ≡ old) (λ place. Adds old new place call) → new.budget ≡ old.budget
 adds_budget old new call None same = ap (λ (d : Document). d.budget) same
@@ -71,11 +72,11 @@ run_budget old new (e ∷ es) (s ∷ ss) run =
     run_budget run.0 new es ss run.2 ∙ adds_budget old run.0 e (place_made s) (step_adds old run.0 e s run.1)
 
 pub IsPrefix-trans : (a b c : List Entry) → IsPrefix a b → IsPrefix b c → IsPrefix a c
-IsPrefix-trans a b c ab bc = (ab.0 ++ bc.0, bc.1 ∙ ap (λ (h : List Entry). h ++ bc.0) ab.1 ∙ append_assoc a ab.0 bc.0)
+IsPrefix-trans a b c ab bc = (ab.0 ++ bc.0, sym (append_assoc a ab.0 bc.0) ∙ ap (λ (h : List Entry). h ++ bc.0) ab.1 ∙ bc.1)
 
 -- a run takes nothing from a history
 pub run_prefix : (old new : Document) (es : List Event) (ss : List Said) → IsRun old new es ss → IsPrefix old.history new.history
-run_prefix old new [] [] run = ([], ap (λ (d : Document). d.history) run ∙ sym (append-nil old.history))
+run_prefix old new [] [] run = ([], append-nil old.history ∙ sym (ap (λ (d : Document). d.history) run))
 run_prefix old new [] (s ∷ ss) run = absurd run
 run_prefix old new (e ∷ es) [] run = absurd run
 run_prefix old new (e ∷ es) (s ∷ ss) run =
@@ -214,6 +215,6 @@ run_right old new (e ∷ es) [] run = absurd run
 run_right old new (e ∷ es) (s ∷ ss) run =
     let grows = run_prefix run.0 new es ss run.2 in
     let adds = step_adds old run.0 e s run.1 in (
-      subst (λ (h : List Entry). IsRightSaid h old.budget e s) (sym grows.1) (IsRightSaid-append run.0.history grows.0 old.budget e s (step_right old run.0 e s run.1)),
+      subst (λ (h : List Entry). IsRightSaid h old.budget e s) grows.1 (IsRightSaid-append run.0.history grows.0 old.budget e s (step_right old run.0 e s run.1)),
       subst (λ (b : ℕ). AreRightSaid new.history b es ss) (adds_budget old run.0 e (place_made s) adds) (run_right run.0 new es ss run.2),
     )

@@ -6,10 +6,6 @@ use Rattle.doc_book.specs.Events.{Event, Edits, Undoes, Asks, Looks, Publishes, 
 use Rattle.doc_book.specs.Growing.{entry_of}
 use Rattle.doc_book.specs.Replies.{IsFrameAct, IsRightReply}
 
--- a history goes on as another: it is a prefix of it
-abbrev pub IsPrefix : List Entry → List Entry → Type 0
-IsPrefix h longer = (more : List Entry) × (longer ≡ h ++ more)
-
 -- the entry that a call makes, where it makes one: a publication that of a frame, whichever
 abbrev pub IsEntryOf : Event → Entry → Type 0
 IsEntryOf (Edits who line edit) e = e ≡ entry_of who line (act.Edit edit)

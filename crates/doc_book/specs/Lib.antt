@@ -1,4 +1,5 @@
 pub mod Calls
+pub mod Desks
 pub mod Document
 pub mod Events
 pub mod Finished
@@ -16,4 +17,5 @@ pub mod Replies
 pub mod Spots
 pub mod Standing
 pub mod Steps
+pub mod Turns
 pub mod Verdicts

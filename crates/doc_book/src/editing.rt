@@ -37,7 +37,8 @@ impl Book {
     /// before.
     pub fn edit(&mut self, alloc: Global, who: u8, line: u32, edit: Edit) -> Result<u32, Refused>
         ensures answer { IsEntered self.old self.new (Edits who line edit) result }
-        ensures legal { IsLegal self.old.history self.old.budget }
+        ensures legal_before { IsLegal self.old.history self.old.budget }
+        ensures legal { IsLegal self.new.history self.new.budget }
         ensures short { length self.new.history < 2 ^ 32 }
     {
         // The front is asked for before and behind, for what the type keeps.
@@ -52,7 +53,8 @@ impl Book {
     /// but Memory are decided without memory. After a refusal the document is as before.
     pub fn undo(&mut self, alloc: Global, who: u8, line: u32) -> Result<u32, Refused>
         ensures answer { IsEntered self.old self.new (Undoes who line) result }
-        ensures legal { IsLegal self.old.history self.old.budget }
+        ensures legal_before { IsLegal self.old.history self.old.budget }
+        ensures legal { IsLegal self.new.history self.new.budget }
         ensures short { length self.new.history < 2 ^ 32 }
     {
         // The front is asked for before and behind, for what the type keeps.
@@ -66,7 +68,8 @@ impl Book {
     /// place; else Memory alone. After a refusal the document is as before.
     pub fn end(&mut self) -> Result<u32, Refused>
         ensures answer { IsEntered self.old self.new Ends result }
-        ensures legal { IsLegal self.old.history self.old.budget }
+        ensures legal_before { IsLegal self.old.history self.old.budget }
+        ensures legal { IsLegal self.new.history self.new.budget }
         ensures short { length self.new.history < 2 ^ 32 }
     {
         // The front is asked for before and behind, for what the type keeps.

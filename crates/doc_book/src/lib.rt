@@ -3,6 +3,7 @@
 
 mod asking;
 mod book;
+mod desks;
 mod drawing;
 mod editing;
 mod entries;
@@ -13,9 +14,11 @@ mod looking;
 mod publishing;
 mod replies;
 mod scanning;
+mod told;
 
 pub use asking::{Answer, Spot};
 pub use book::{Book, MOST_FRAMES};
+pub use desks::{Alone, Desk, Terms};
 pub use drawing::drawn_law;
 pub use editing::MOST_ENTRIES;
 pub use entries::{Act, Entry};
@@ -23,6 +26,7 @@ pub use laws::{feasible_law, play_law, run_law, undo_law, verdict_law};
 pub use looking::{Job, Look};
 pub use publishing::{Finish, MOST_FINISHING, Publish, Solved};
 pub use replies::{Refused, Reply};
+pub use told::Told;
 
 #[cfg(test)]
 mod feasibility_tests;

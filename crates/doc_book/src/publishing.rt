@@ -7,6 +7,7 @@ ghost use Rattle.doc_book.specs.History.{end_place, scene_at, places_at};
 ghost use Rattle.doc_book.specs.Calls.{IsPublished, IsFinishing};
 ghost use Rattle.doc_book.specs.Jobs.{IsJobOf, IsSolved};
 ghost use Rattle.doc_book.specs.Legal.{HasRoom, IsLegal};
+ghost use Rattle.doc_book.specs.Turns.{is_published};
 
 use crate::book::Book;
 use crate::editing::add;
@@ -92,6 +93,19 @@ pub enum Publish {
     Memory { back: Solved },
 }
 
+impl Publish {
+    /// Whether the frame was entered.
+    pub fn is_published(&self) -> bool
+        ensures { result ≡ is_published self.now }
+    {
+        match self {
+            Publish::Published { .. } => true,
+            Publish::Stale { .. } => false,
+            Publish::Memory { .. } => false,
+        }
+    }
+}
+
 /// The answer to a step of finishing. Each place is that of the last entry as the call ends.
 #[derive(Clone, Copy, Debug, PartialEq, Eq)]
 pub enum Finish {
@@ -112,7 +126,8 @@ impl Book {
     pub fn publish(&mut self, alloc: Global, who: u8, line: u32, solved: Solved) -> Publish
         requires { IsJobOf self.old.history self.old.budget solved.job.front solved.job.scene solved.job.places }
         ensures answer { IsPublished self.old self.new who line solved result }
-        ensures legal { IsLegal self.old.history self.old.budget }
+        ensures legal_before { IsLegal self.old.history self.old.budget }
+        ensures legal { IsLegal self.new.history self.new.budget }
         ensures short { length self.new.history < 2 ^ 32 }
     {
         // The front is asked for before and behind, for what the type keeps.
@@ -145,7 +160,8 @@ impl Book {
     pub fn finish(&mut self, alloc: Global) -> Finish
         requires { IsSome (end_place self.old.history) }
         ensures answer { IsFinishing self.old self.new result }
-        ensures legal { IsLegal self.old.history self.old.budget }
+        ensures legal_before { IsLegal self.old.history self.old.budget }
+        ensures legal { IsLegal self.new.history self.new.budget }
         ensures short { length self.new.history < 2 ^ 32 }
     {
         // The front is asked for before and behind, for what the type keeps.

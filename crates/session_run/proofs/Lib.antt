@@ -1,3 +1,5 @@
+pub mod AllLines
 pub mod Elements
 pub mod Lists
+pub mod OneLine
 pub mod Playing

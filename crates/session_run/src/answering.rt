@@ -26,7 +26,7 @@ pub fn answer(alloc: Global, book: &mut Book, line: &Line) -> Result<Reply, Memo
 }
 
 /// The reply to an edit or undo that was answered so.
-fn entered(answer: Result<u32, Refused>) -> Result<Reply, Memory>
+pub(crate) fn entered(answer: Result<u32, Refused>) -> Result<Reply, Memory>
     ensures { IsReplyTo answer result }
 {
     match answer {
@@ -39,7 +39,7 @@ fn entered(answer: Result<u32, Refused>) -> Result<Reply, Memory>
 }
 
 /// The reply to a question that was answered so.
-fn told(answer: Result<Answer, Refused>) -> Reply
+pub(crate) fn told(answer: Result<Answer, Refused>) -> Reply
     ensures { result ≡ reply_to_ask answer }
 {
     match answer {

@@ -3,6 +3,11 @@
 
 mod alone;
 mod answering;
+mod at_desk;
 mod laying;
 
 pub use alone::play_alone;
+pub use at_desk::play;
+
+#[cfg(test)]
+mod tests;

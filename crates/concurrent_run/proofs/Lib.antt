@@ -1,0 +1,13 @@
+pub mod Rising
+pub mod Ends
+pub mod Owners
+pub mod Latest
+pub mod Deals
+pub mod Counts
+pub mod Parts
+pub mod Lists
+pub mod Heard
+pub mod Closing
+pub mod Together
+pub mod Turning
+pub mod Dealt

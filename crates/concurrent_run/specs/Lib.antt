@@ -1,0 +1,5 @@
+pub mod Beside
+pub mod Elements
+pub mod Leading
+pub mod Dealing
+pub mod Gathering

@@ -1,0 +1,5 @@
+pub mod Committing
+pub mod Gathered
+mod Looking
+pub mod Owning
+pub mod Turning

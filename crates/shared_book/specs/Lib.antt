@@ -1,0 +1,4 @@
+pub mod Calling
+pub mod Committed
+pub mod Dealing
+pub mod Held
