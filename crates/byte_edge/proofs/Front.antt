@@ -29,6 +29,15 @@ gives_rest all buf old given n count within small is =
     let fits : n ≤ length (drop given all) = let c : n ≡ min (length (drop given all)) (length old) = count ∙ ap (λ bytes. min (length bytes) (length old)) rest in omega (arith, c) in
     gives_next all buf old given n fits (omega (arith, length-drop given all)) (is ∙ ap (λ bytes. take n bytes ++ drop n old) rest)
 
+-- The same, where at most so many bytes of the rest were offered.
+pub gives_step : (all buf old : List ℕ) (given n step : ℕ) → n ≡ min (length (take (min (length (drop given all)) step) (drop given all))) (length old) → given + n < 2 ^ 64
+    → buf ≡ take n (take (min (length (drop given all)) step) (drop given all)) ++ drop n old
+    → Gives (Some (drop given all)) (Some (drop (given + n) all)) given (given + n) (take n buf)
+gives_step all buf old given n step count small is =
+    let offered : length (take (min (length (drop given all)) step) (drop given all)) ≡ min (length (drop given all)) step = length-take-le (min (length (drop given all)) step) (drop given all) (omega arith) in
+    let within : n ≤ min (length (drop given all)) step = omega (arith, count, offered) in
+    gives_next all buf old given n (omega (arith, within)) small (is ∙ ap (λ bytes. bytes ++ drop n old) (take-take n (min (length (drop given all)) step) (drop given all) within))
+
 -- so many of the bytes were put, and nothing failed
 pub record PutsSoFar (put put' : Option (List ℕ)) (faults faults' : ℕ) (bytes : List ℕ) (at : ℕ) : Type 0 where
   pub grown : put' ≡ append_known put (take at bytes)

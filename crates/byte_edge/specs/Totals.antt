@@ -27,6 +27,19 @@ pub record SureBytes : Type 0 where
   pub all : List ℕ
   pub given : ℕ
 
+-- a source over bytes in memory that never fails, and gives at most so many bytes a call
+pub record SlowBytes : Type 0 where
+  pub all : List ℕ
+  pub given : ℕ
+  -- the most bytes of one call
+  pub step : ℕ
+
+-- a sink into memory that never fails, and takes at most so many bytes a call
+pub record SlowBytesPut : Type 0 where
+  -- the bytes taken so far
+  pub put : List ℕ
+  pub step : ℕ
+
 -- what is known of a reader of std: how often it failed, and how many bytes it gave
 pub record ReaderCounts : Type 0 where
   pub faults : ℕ

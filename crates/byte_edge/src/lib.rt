@@ -4,6 +4,7 @@
 mod listed;
 mod reading;
 mod sink;
+mod slow;
 mod source;
 mod standard;
 mod sure;
@@ -12,6 +13,7 @@ mod writing;
 pub use listed::{MemSink, MemSource};
 pub use reading::{ReadStop, read_all};
 pub use sink::{Sink, SinkStop};
+pub use slow::{SlowSink, SlowSource};
 pub use source::{Failed, Source};
 pub use standard::{StdSink, StdSource};
 pub use sure::{SureSink, SureSource};

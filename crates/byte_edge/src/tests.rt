@@ -1,3 +1,5 @@
+ghost use Rattle.std.specs.Prelude.{◌≤◌};
+
 use super::*;
 use std::alloc::{AllocError, Global};
 use std::io;
@@ -158,5 +160,34 @@ fn adapts_a_writer(rt: HostRuntime) -> Result<(), Fail> {
         drop(sink);
         assert_eq!(rt; bytes.as_slice(), taken);
     }
+    Ok(())
+}
+
+// Bytes that come and go in steps, all of them in the end.
+fn moves_by<R: AllocGlobal>(rt: &R, step: u32) -> Result<(), Fail>
+    requires { 1 ≤ step }
+{
+    let alloc = rt.alloc();
+    let bytes = some_bytes(alloc, 300)?;
+    let mut source = SlowSource::new(bytes.clone()?, step);
+    let mut sink = SlowSink::new(alloc, step);
+    let all = read_all(alloc, &mut source, 300);
+    if !all.is_ok_and(|all| put_all(&mut sink, &all).is_ok()) || sink.bytes() != bytes.as_slice() {
+        return Err("all the bytes".into());
+    }
+    Ok(())
+}
+
+#[test]
+fn moves_in_steps(rt: HostRuntime) -> Result<(), Fail> {
+    moves_by(&rt, 1)?;
+    moves_by(&rt, 7)?;
+    moves_by(&rt, 4096)?;
+    let alloc = rt.alloc();
+    let mut buf = [0u8; 5];
+    let mut source = SlowSource::new(b"abc".to_vec(alloc)?, 2);
+    assert!(rt; source.read(&mut buf) == Ok(2) && buf == *b"ab\0\0\0");
+    let mut sink = SlowSink::new(alloc, 2);
+    assert!(rt; sink.write(b"abc") == Ok(2) && sink.bytes() == b"ab".as_slice());
     Ok(())
 }
