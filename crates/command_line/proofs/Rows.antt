@@ -35,15 +35,15 @@ frames_and_svg_taken : TakesWords (name ∷ codes "--frames=3" ∷ codes "--svg"
 unfolding TakesWords the_command clap_on_literals
 frames_and_svg_taken = refl
 
--- a made script
-made : plan_of (name ∷ codes "--make" ∷ codes "7" ∷ []) ≡ record plain { made = Some 7 }
+-- a made script has no workers
+made : plan_of (name ∷ codes "--make" ∷ codes "7" ∷ codes "--workers" ∷ codes "2" ∷ []) ≡ record plain { made = Some 7 }
 unfolding plan_of the_command clap_on_literals
 made = refl
 
 -- a number above its range
-too_many_frames : fault_of the_command (name ∷ codes "--frames" ∷ codes "513" ∷ []) ≡ kind.ValueValidation ∷ []
+nine_workers : fault_of the_command (name ∷ codes "--workers" ∷ codes "9" ∷ []) ≡ kind.ValueValidation ∷ []
 unfolding the_command clap_on_literals
-too_many_frames = refl
+nine_workers = refl
 
 -- a flag twice
 svg_twice : fault_of the_command (name ∷ codes "--svg" ∷ codes "--svg" ∷ []) ≡ kind.ArgumentConflict ∷ []
@@ -78,20 +78,20 @@ svg_with_value : fault_of the_command (name ∷ codes "--svg=true" ∷ []) ≡ k
 unfolding the_command clap_on_literals
 svg_with_value = refl
 
-prefix : fault_of the_command (name ∷ codes "--frame" ∷ codes "2" ∷ []) ≡ kind.UnknownArgument ∷ []
+prefix : fault_of the_command (name ∷ codes "--work" ∷ codes "2" ∷ []) ≡ kind.UnknownArgument ∷ []
 unfolding the_command clap_on_literals
 prefix = refl
 
 -- zero with a sign: `-0` stands for itself behind `=`, and is a flag by itself
-minus_zero : plan_of (name ∷ codes "--frames=-0" ∷ []) ≡ record plain { frames = 0 }
+minus_zero : plan_of (name ∷ codes "--workers=-0" ∷ []) ≡ plain
 unfolding plan_of the_command clap_on_literals
 minus_zero = refl
 
-minus_zero_alone : fault_of the_command (name ∷ codes "--frames" ∷ codes "-0" ∷ []) ≡ kind.UnknownArgument ∷ []
+minus_zero_alone : fault_of the_command (name ∷ codes "--workers" ∷ codes "-0" ∷ []) ≡ kind.UnknownArgument ∷ []
 unfolding the_command clap_on_literals
 minus_zero_alone = refl
 
-plus_five : plan_of (name ∷ codes "--frames" ∷ codes "+5" ∷ []) ≡ record plain { frames = 5 }
+plus_five : plan_of (name ∷ codes "--workers" ∷ codes "+5" ∷ []) ≡ record plain { workers = 5 }
 unfolding plan_of the_command clap_on_literals
 plus_five = refl
 

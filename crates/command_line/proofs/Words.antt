@@ -35,17 +35,21 @@ module _ (id : Text) (help : bytes_eq (codes "help") id ≡ false) (version : by
   not_auto a (inl is) = ap (λ (t : Text). bytes_eq t id) is ∙ help
   not_auto a (inr is) = ap (λ (t : Text). bytes_eq t id) is ∙ version
 
+workers_rule : AreOnlyBy (codes "workers") (parser.Signed (pos 0) (pos 8)) the_command.top.rules
+unfolding the_command
+workers_rule = (λ _. (refl, refl), (λ e. absurd cc, (λ e. absurd cc, (λ e. absurd cc, tt))))
+
 frames_rule : AreOnlyBy (codes "frames") (parser.Signed (pos 0) (pos 512)) the_command.top.rules
 unfolding the_command
-frames_rule = (λ _. (refl, refl), (λ e. absurd cc, (λ e. absurd cc, tt)))
+frames_rule = (λ e. absurd cc, (λ _. (refl, refl), (λ e. absurd cc, (λ e. absurd cc, tt))))
 
 svg_rule : AreOnlyBy (codes "svg") parser.Bool the_command.top.rules
 unfolding the_command
-svg_rule = (λ e. absurd cc, (λ _. (refl, refl), (λ e. absurd cc, tt)))
+svg_rule = (λ e. absurd cc, (λ e. absurd cc, (λ _. (refl, refl), (λ e. absurd cc, tt))))
 
 make_rule : AreOnlyBy (codes "make") (parser.Signed (pos 1) (pos 1000000)) the_command.top.rules
 unfolding the_command
-make_rule = (λ e. absurd cc, (λ e. absurd cc, (λ _. (refl, refl), tt)))
+make_rule = (λ e. absurd cc, (λ e. absurd cc, (λ e. absurd cc, (λ _. (refl, refl), tt))))
 
 -- what a parse of the command found passed the parsers
 pub command_read : (c : Command) (m : ArgMatches) → app_of c ≡ the_command → IsParsedFrom c m → IsRead (found_of m)
@@ -53,6 +57,7 @@ command_read c m is p =
     let simple : has_simple_rules (shape_of c) ≡ true = ap (λ (a : App). has_simple_rules a.top) is ∙ simple_rules in
     let rules : map rule_of (args_of c) ≡ the_command.top.rules = ap (λ (a : App). a.top.rules) is in
     record {
+      workers = optional_read c m p simple _ _ (subst (AreOnlyBy (codes "workers") (parser.Signed (pos 0) (pos 8))) (sym rules) workers_rule) (λ e. absurd cc) (not_auto _ refl refl);
       frames = optional_read c m p simple _ _ (subst (AreOnlyBy (codes "frames") (parser.Signed (pos 0) (pos 512))) (sym rules) frames_rule) (λ e. absurd cc) (not_auto _ refl refl);
       svg = optional_read c m p simple _ _ (subst (AreOnlyBy (codes "svg") parser.Bool) (sym rules) svg_rule) (λ e. absurd cc) (not_auto _ refl refl);
       make = optional_read c m p simple _ _ (subst (AreOnlyBy (codes "make") (parser.Signed (pos 1) (pos 1000000))) (sym rules) make_rule) (λ e. absurd cc) (not_auto _ refl refl);

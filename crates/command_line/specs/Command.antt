@@ -17,10 +17,11 @@ number_rule name least most = record (new_rule name) {
 abbrev pub flag_rule : Text → Rule
 flag_rule name = record (new_rule name) { long = Some name; action = Some SetTrue; parser = Some parser.Bool }
 
--- dunnart [--frames N] [--svg] [--make N]
+-- dunnart [--workers N] [--frames N] [--svg] [--make N]
 unfoldable pub the_command : App
 the_command =
-    with_rule (with_rule (with_rule (new_app (codes "dunnart"))
+    with_rule (with_rule (with_rule (with_rule (new_app (codes "dunnart"))
+    (number_rule (codes "workers") 0 8))
     (number_rule (codes "frames") 0 512))
     (flag_rule (codes "svg")))
     (number_rule (codes "make") 1 1000000)

@@ -35,6 +35,8 @@ fn flag<'a>(alloc: Global, name: &'a str, help: &'a str) -> Arg<'a>
 // What help says of the command and of each argument.
 const ABOUT: &str = "Reads a script of diagram edits, lays the diagram out and writes a listing.";
 
+const WORKERS: &str = "Workers that lay out while sessions edit, 0 to 8 [default: 0]";
+
 const FRAMES: &str = "Most frames before the end of the script, 0 to 512 [default: 64]";
 
 const SVG: &str = "Writes the picture in place of the listing";
@@ -46,6 +48,7 @@ pub fn the_command<'a>(alloc: Global) -> Result<Command<'a>, AllocError>
     ensures { IfOk result (λ command. app_of command ≡ the_command) }
 {
     let command = Command::new(alloc, "dunnart").about(ABOUT);
+    let command = command.arg(number(alloc, "workers", 0, 8, WORKERS))?;
     let command = command.arg(number(alloc, "frames", 0, 512, FRAMES))?;
     let command = command.arg(flag(alloc, "svg", SVG))?;
     let command = command.arg(number(alloc, "make", 1, 1_000_000, MAKE))?;

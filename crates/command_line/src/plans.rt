@@ -3,7 +3,7 @@
 /// What the words ask for.
 #[derive(Clone, Copy, Debug, PartialEq, Eq)]
 pub struct Plan {
-    /// How many layout workers run beside the sessions: none today.
+    /// How many layout workers run beside the sessions: 0 to 8, and 0 where a script is made.
     pub workers: u8,
     /// The budget of frames before End: 0 to 512.
     pub frames: u32,

@@ -14,6 +14,14 @@ use clap::error::ErrorKind;
 use clap::{ArgMatches, Error};
 use std::alloc::{AllocError, Global};
 
+fn workers(matches: &ArgMatches) -> Option<u8>
+    requires { IsRead (found_of matches.now) }
+    ensures value { result ≡ number_at (codes "workers") (rows_of (found_of matches.now)) }
+    ensures within { IfSome result (λ n. n ≤ 8) }
+{
+    matches.get_one::<u8>("workers")
+}
+
 fn frames(matches: &ArgMatches) -> Option<u32>
     requires { IsRead (found_of matches.now) }
     ensures value { result ≡ number_at (codes "frames") (rows_of (found_of matches.now)) }
@@ -44,9 +52,10 @@ fn plan_by(matches: &ArgMatches) -> Plan
     ensures in_range { IsInRange result }
 {
     let made = made(matches);
+    let workers = workers(matches).unwrap_or(0);
     let frames = frames(matches).unwrap_or(64);
     Plan {
-        workers: 0,
+        workers: if made.is_some() { 0 } else { workers },
         frames,
         svg: svg(matches),
         made,

@@ -9,14 +9,15 @@ Reads a script of diagram edits, lays the diagram out and writes a listing.
 Usage: dunnart [OPTIONS]
 
 Options:
-      --frames <N>  Most frames before the end of the script, 0 to 512 [default: 64]
-      --svg         Writes the picture in place of the listing
-      --make <N>    Makes script N, 1 to 1000000, and writes its summary; reads nothing
-  -h, --help        Print help
+      --workers <N>  Workers that lay out while sessions edit, 0 to 8 [default: 0]
+      --frames <N>   Most frames before the end of the script, 0 to 512 [default: 64]
+      --svg          Writes the picture in place of the listing
+      --make <N>     Makes script N, 1 to 1000000, and writes its summary; reads nothing
+  -h, --help         Print help
 ";
 
-const TOO_MANY_FRAMES: &str = "\
-error: invalid value '513' for '--frames <N>': 513 is not in 0..=512
+const NINE_WORKERS: &str = "\
+error: invalid value '9' for '--workers <N>': 9 is not in 0..=8
 
 For more information, try '--help'.
 ";
@@ -40,16 +41,17 @@ fn words_are_read(rt: HostRuntime) -> Result<(), Fail> {
     };
     let words = owned(alloc, &["dunnart"])?;
     assert_eq!(rt; plan_from(alloc, &words), Ok(plan));
-    let words = owned(alloc, &["dunnart", "--frames=3", "--svg"])?;
+    let words = owned(alloc, &["dunnart", "--workers", "2", "--frames=3", "--svg"])?;
     assert_eq!(rt;
         plan_from(alloc, &words),
         Ok(Plan {
+            workers: 2,
             frames: 3,
             svg: true,
             ..plan
         })
     );
-    let words = owned(alloc, &["dunnart", "--make", "7"])?;
+    let words = owned(alloc, &["dunnart", "--make", "7", "--workers", "2"])?;
     assert_eq!(rt;
         plan_from(alloc, &words),
         Ok(Plan {
@@ -63,10 +65,10 @@ fn words_are_read(rt: HostRuntime) -> Result<(), Fail> {
 #[test]
 fn refused_words(rt: HostRuntime) -> Result<(), Fail> {
     let alloc = rt.alloc();
-    let words = owned(alloc, &["dunnart", "--frames", "513"])?;
+    let words = owned(alloc, &["dunnart", "--workers", "9"])?;
     assert_eq!(rt; plan_from(alloc, &words), Err(PlanStop::Refused));
     let text = refusal_text(alloc, &words)?.ok_or("a text")?;
-    assert_eq!(rt; text.as_str(), TOO_MANY_FRAMES);
+    assert_eq!(rt; text.as_str(), NINE_WORKERS);
     let words = owned(alloc, &["dunnart", "--help"])?;
     assert_eq!(rt; plan_from(alloc, &words), Err(PlanStop::Refused));
     let text = refusal_text(alloc, &words)?.ok_or("a text")?;

@@ -69,12 +69,13 @@ not_whole fault.Long early at = omega arith
 pub early-IsRun : (plan : Plan) (reading : Reading) (writing : Writing) (f : Fault) → IsEarly f → IsRun plan reading writing (failure f)
 early-IsRun plan reading writing f early = record {
   whole = λ at. absurd (not_whole f early at);
-  bare = inr (refl, refl, refl);
+  bare = inr (refl, refl, refl, refl);
   input = tt;
   history = tt;
   own_entries = tt;
   replies = tt;
   callers = tt;
-  order = tt;
+  order = λ _. tt;
+  tallies = tt;
   output = λ _. tt;
 }

@@ -10,15 +10,17 @@ use Rattle.script_text.specs.declared.scripts.Line.{Line}
 use Rattle.script_text.specs.Scripts.{Spells}
 use Rattle.doc_book.specs.declared.replies.Reply.{Reply}
 use Rattle.doc_book.specs.Document.{Document}
+use Rattle.layout_worker.specs.declared.tallies.Tally.{Tally}
 use Rattle.output_text.specs.Output.{output_text}
 use Rattle.editor_run.specs.declared.outcome.Outcome.{Outcome}
 use Rattle.editor_run.specs.declared.outcome.Fault.{Fault}
 use Rattle.editor_run.specs.declared.outcome.Fault.TheVariants as fault
+use Rattle.command_line.specs.Plans.{IsAlone, IsInRange}
 use Rattle.command_line.specs.declared.plans.Plan.{Plan}
 use Rattle.editor_run.specs.Ends.{Reading, Writing}
 use Rattle.editor_run.specs.Input.{most_bytes, IsInput, HasReadCauses}
 use Rattle.editor_run.specs.Outcomes.{failure, ran, status_of}
-use Rattle.editor_run.specs.Played.{IsRightHistory, AreOwnEntries, HaveRightReplies, AreCallers, AreInFileOrder}
+use Rattle.editor_run.specs.Played.{IsPlayedToEnd}
 use Rattle.editor_run.specs.Runs.{IsRun, HasCauses}
 use Rattle.editor_run.proofs.Ending.{memory_early, early-IsRun}
 
@@ -54,38 +56,37 @@ later reading cause read late = record {
   within = inr (other_holds (none≢some _) read.within);
 }
 
+-- a plan that makes its script has no workers, so sessions alone edit by a plan where it has none
+no_workers : (plan : Plan) → IsInRange plan → IsAlone plan → plan.workers ≡ 0
+no_workers plan in_range (inl none) = none
+no_workers plan in_range (inr made) = in_range.alone made
+
 -- ---- a script that was read or made, and played to the end of its document
 
-pub record IsPlayed (plan : Plan) (reading : Reading) (script : List Line) (document : Document) (replies : List (List Reply)) : Type 0 where
-  pub input : IsInput plan reading script
-  pub causes : HasReadCauses reading None
-  pub history : IsRightHistory plan.frames document
-  pub own_entries : AreOwnEntries document replies
-  pub right : HaveRightReplies document script replies
-  pub callers : AreCallers document.history replies
-  pub order : AreInFileOrder script replies
-
 module _ (plan : Plan) (reading : Reading) (writing : Writing) (outcome : Outcome)
-    (script : List Line) (document : Document) (replies shown : List (List Reply)) (played : IsPlayed plan reading script document replies) (same : shown ≡ replies) where
+    (script : List Line) (document : Document) (replies shown : List (List Reply)) (tallies : List Tally)
+    (in_range : IsInRange plan) (input : IsInput plan reading script)
+    (played : IsPlayedToEnd plan.frames plan.workers script document replies tallies) (same : shown ≡ replies) where
   -- the output was written
-  pub success-IsRun : outcome ≡ ran script document replies None
+  pub success-IsRun : outcome ≡ ran script document replies tallies None
       → writing.put_after ≡ append_known writing.put_before (output_text plan script document.history shown) → IsRun plan reading writing outcome
   success-IsRun is put = subst (IsRun plan reading writing) (sym is) (record {
     whole = λ _. (refl, refl);
     bare = inl (inl refl);
-    input = played.input;
+    input = input;
     history = played.history;
     own_entries = played.own_entries;
-    replies = played.right;
+    replies = played.replies;
     callers = played.callers;
-    order = played.order;
+    order = λ alone. played.order (no_workers plan in_range alone);
+    tallies = played.counts;
     output = λ _. subst (λ (rs : List (List Reply)). writing.put_after ≡ append_known writing.put_before (output_text plan script document.history rs)) same put;
   })
 
-  pub success-HasCauses : (SinkKept : Type 0) → outcome ≡ ran script document replies None → writing.faults_after ≡ writing.faults_before → HasCauses plan reading writing SinkKept outcome
-  success-HasCauses SinkKept is calm = subst (HasCauses plan reading writing SinkKept) (sym is) (record {
+  pub success-HasCauses : (SinkKept : Type 0) → HasReadCauses reading None → outcome ≡ ran script document replies tallies None → writing.faults_after ≡ writing.faults_before → HasCauses plan reading writing SinkKept outcome
+  success-HasCauses SinkKept causes is calm = subst (HasCauses plan reading writing SinkKept) (sym is) (record {
     status = refl;
-    reading_causes = played.causes;
+    reading_causes = causes;
     sink_failed = λ e. absurd cc;
     sink_calm = inr calm;
     part = λ e. absurd cc;
@@ -97,27 +98,28 @@ module _ (plan : Plan) (reading : Reading) (writing : Writing) (outcome : Outcom
       written at = omega arith
 
   -- the sink failed
-  pub stopped-IsRun : outcome ≡ ran script document replies (Some fault.Sink) → IsRun plan reading writing outcome
+  pub stopped-IsRun : outcome ≡ ran script document replies tallies (Some fault.Sink) → IsRun plan reading writing outcome
   stopped-IsRun is = subst (IsRun plan reading writing) (sym is) (record {
     whole = λ _. (refl, refl);
     bare = inl (inr refl);
-    input = played.input;
+    input = input;
     history = played.history;
     own_entries = played.own_entries;
-    replies = played.right;
+    replies = played.replies;
     callers = played.callers;
-    order = played.order;
+    order = λ alone. played.order (no_workers plan in_range alone);
+    tallies = played.counts;
     output = λ e. absurd (none e);
   })
     where
       none : let n : ℕ = 6 in n ≡ 0 → ⊥
       none e = omega arith
 
-  pub stopped-HasCauses : (SinkKept : Type 0) → outcome ≡ ran script document replies (Some fault.Sink) → HasRisen writing.faults_before writing.faults_after
+  pub stopped-HasCauses : (SinkKept : Type 0) → HasReadCauses reading None → outcome ≡ ran script document replies tallies (Some fault.Sink) → HasRisen writing.faults_before writing.faults_after
       → TakesPart writing.put_before writing.put_after (output_text plan script document.history shown) → HasCauses plan reading writing SinkKept outcome
-  stopped-HasCauses SinkKept is risen part = subst (HasCauses plan reading writing SinkKept) (sym is) (record {
+  stopped-HasCauses SinkKept causes is risen part = subst (HasCauses plan reading writing SinkKept) (sym is) (record {
     status = refl;
-    reading_causes = later reading (Some fault.Sink) played.causes sink_late;
+    reading_causes = later reading (Some fault.Sink) causes sink_late;
     sink_failed = λ _. risen;
     sink_calm = inl refl;
     part = λ _. subst (λ (rs : List (List Reply)). TakesPart writing.put_before writing.put_after (output_text plan script document.history rs)) same part;
@@ -132,11 +134,11 @@ module _ (plan : Plan) (reading : Reading) (writing : Writing) (outcome : Outcom
   pub unwritten-IsRun : outcome ≡ failure fault.Memory → IsRun plan reading writing outcome
   unwritten-IsRun is = subst (IsRun plan reading writing) (sym is) (early-IsRun plan reading writing fault.Memory memory_early)
 
-  pub unwritten-HasCauses : (SinkKept : Type 0) → outcome ≡ failure fault.Memory → writing.faults_after ≡ writing.faults_before
+  pub unwritten-HasCauses : (SinkKept : Type 0) → HasReadCauses reading None → outcome ≡ failure fault.Memory → writing.faults_after ≡ writing.faults_before
       → TakesPart writing.put_before writing.put_after (output_text plan script document.history shown) → HasCauses plan reading writing SinkKept outcome
-  unwritten-HasCauses SinkKept is calm part = subst (HasCauses plan reading writing SinkKept) (sym is) (record {
+  unwritten-HasCauses SinkKept causes is calm part = subst (HasCauses plan reading writing SinkKept) (sym is) (record {
     status = refl;
-    reading_causes = later reading (Some fault.Memory) played.causes memory_late;
+    reading_causes = later reading (Some fault.Memory) causes memory_late;
     sink_failed = λ e. absurd cc;
     sink_calm = inr calm;
     part = λ _. tt;
@@ -145,9 +147,9 @@ module _ (plan : Plan) (reading : Reading) (writing : Writing) (outcome : Outcom
       script = script;
       document = document;
       replies = replies;
-      input = played.input;
-      history = played.history;
-      right = played.right;
+      tallies = tallies;
+      input = input;
+      played = played;
       part = subst (λ (rs : List (List Reply)). TakesPart writing.put_before writing.put_after (output_text plan script document.history rs)) same part;
     });
   })

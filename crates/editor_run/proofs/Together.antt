@@ -1,5 +1,5 @@
 -- From the lines that were played to the finished document.
-use Rattle.std.proofs.Common.{◌≡◌, ◌+◌, ◌≤◌, ℕ, List, [], ◌∷◌, ◌++◌, Bool, false, cond, Option, Some, None, length, refl, ap, sym, ◌∙◌, subst, arith, zero, suc, append_assoc}
+use Rattle.std.proofs.Common.{◌≡◌, ◌+◌, ◌≤◌, ℕ, inl, List, [], ◌∷◌, ◌++◌, Bool, false, cond, Option, Some, None, length, refl, ap, sym, ◌∙◌, subst, arith, zero, suc, append_assoc}
 use Rattle.std.specs.Option.{option_map}
 use Rattle.std.proofs.lemmas.List.{append-nil}
 use Rattle.std.specs.Prelude.{replicate}
@@ -9,6 +9,7 @@ use Rattle.script_text.specs.declared.scripts.Line.{Line}
 use Rattle.doc_book.specs.declared.entries.Entry.{Entry}
 use Rattle.doc_book.specs.declared.entries.Act.TheVariants as act
 use Rattle.doc_book.specs.declared.replies.Reply.{Reply}
+use Rattle.layout_worker.specs.declared.tallies.Tally.{Tally}
 use Rattle.doc_book.specs.Document.{Document}
 use Rattle.doc_book.specs.Finished.{IsFinished, IsFinishing}
 use Rattle.doc_book.specs.Legal.{IsLegal}
@@ -22,7 +23,8 @@ use Rattle.doc_book.proofs.Later.{AreRightReplies-append, OwnEntriesAre-append_r
 use Rattle.session_run.specs.Sessions.{ForSessions}
 use Rattle.session_run.proofs.Elements.{all-then}
 use Rattle.session_run.proofs.Lists.{ForSessions-then}
-use Rattle.editor_run.specs.Played.{IsRightHistory, AreOwnEntries, HaveRightReplies, AreCallers, AreInFileOrder}
+use Rattle.concurrent_run.specs.Beside.{IsByCaller}
+use Rattle.editor_run.specs.Played.{IsRightHistory, AreOwnEntries, HaveRightReplies, AreCallers, AreInFileOrder, AreTallies}
 use Rattle.editor_run.proofs.Counting.{HasReplies, HasPlayed, IsSessionEntry}
 
 -- a history of session entries wasn't ended
@@ -46,7 +48,7 @@ replies_whole d lines lists tail p =
     ForSessions-then (HasReplies d lines) (λ session replies. AreRightReplies (d.history ++ tail) d.budget session 0 (session_lines session lines) replies) 1 lists
     (λ t rs le has. AreRightReplies-append d.history tail d.budget t 0 (session_lines t lines) rs has.right) p.each
 
-end_place-append : (h more : List Entry) (k : ℕ) → end_place h ≡ Some k → end_place (h ++ more) ≡ Some k
+pub end_place-append : (h more : List Entry) (k : ℕ) → end_place h ≡ Some k → end_place (h ++ more) ≡ Some k
 end_place-append h [] k at = ap end_place (append-nil h) ∙ at
 end_place-append h (e ∷ es) k at = ap end_place (sym (append_assoc h (e ∷ []) es)) ∙ end_place-append (h ++ e ∷ []) es k (end_place-push_some h e k at)
 
@@ -57,14 +59,14 @@ all_lists P Q n (rs ∷ more) step all = (step n rs all.0, all_lists P Q (n + 1)
 
 -- sessions alone made entries before End, the run alone from it on, and no reply was given after it
 pub callers_whole : (d : Document) (lines : List Line) (lists : List (List Reply)) (more : List Entry) → HasPlayed d lines lists → AllByRecursion IsFinishing more
-    → AreCallers (d.history ++ entry_of 0 0 act.End ∷ more) lists
+    → AreCallers 0 (d.history ++ entry_of 0 0 act.End ∷ more) lists
 callers_whole d lines lists more p finishing =
     let ending = entry_of 0 0 act.End in
     record {
       place = length d.history;
       ended = ap end_place (sym (append_assoc d.history (ending ∷ []) more)) ∙ end_place-append (d.history ++ ending ∷ []) more (length d.history) (end_place-push_end d.history ending (not_ended_by d.history p.entries) refl);
-      sessions = subst (AllByRecursion (λ (e : Entry). (1 ≤ e.who) × (e.who ≤ 8))) (sym (take-append_seam d.history (ending ∷ more)))
-          (all-then IsSessionEntry _ d.history (λ (e : Entry) one. (one.first, one.last)) p.entries);
+      before = subst (AllByRecursion (IsByCaller 0)) (sym (take-append_seam d.history (ending ∷ more)))
+          (all-then IsSessionEntry _ d.history (λ (e : Entry) one. inl (one.first, one.last)) p.entries);
       run = subst (AllByRecursion (λ (e : Entry). e.who ≡ 0)) (sym (drop-append_seam d.history (ending ∷ more))) (refl, all-then IsFinishing _ more (λ (e : Entry) f. f.who) finishing);
       before_end = all_lists (HasReplies d lines) (AllByRecursion (λ (r : Reply). after_of r ≤ length d.history)) 1 lists (λ t rs has. has.seen) p.each;
     }
@@ -108,10 +110,10 @@ finished_replies d0 d1 d2 lines lists all p ended g same =
     }
 
 pub finished_callers : (d0 d1 d2 : Document) (lines : List Line) (lists all : List (List Reply)) → HasPlayed d0 lines lists → d1 ≡ ended_now d0 → GrowsByFinishing d1 d2
-    → all ≡ lists → AreCallers d2.history all
+    → all ≡ lists → AreCallers 0 d2.history all
 finished_callers d0 d1 d2 lines lists all p ended g same =
-    subst (AreCallers d2.history) (sym same)
-    (subst (λ h. AreCallers h lists) (sym (whole_history d0 d1 d2 ended g)) (callers_whole d0 lines lists g.more p g.finishing))
+    subst (AreCallers 0 d2.history) (sym same)
+    (subst (λ h. AreCallers 0 h lists) (sym (whole_history d0 d1 d2 ended g)) (callers_whole d0 lines lists g.more p g.finishing))
 
 pub finished_history : (budget : ℕ) (d0 d1 d2 : Document) → d0.budget ≡ budget → d1 ≡ ended_now d0 → GrowsByFinishing d1 d2 → IsLegal d2.history d2.budget → IsFinished d2.history
     → IsRightHistory budget d2
@@ -121,3 +123,13 @@ finished_history budget d0 d1 d2 is ended g legal finished =
 
 pub finished_order : (lines : List Line) (lists all : List (List Reply)) → AreInFileOrder lines lists → all ≡ lists → AreInFileOrder lines all
 finished_order lines lists all order same = subst (AreInFileOrder lines) (sym same) order
+
+-- without workers there is no tally
+pub finished_counts : (budget : ℕ) (d0 d1 d2 : Document) (lines : List Line) (lists : List (List Reply)) (tallies : List Tally) → HasPlayed d0 lines lists → d1 ≡ ended_now d0
+    → GrowsByFinishing d1 d2 → tallies ≡ [] → AreTallies budget 0 d2.history tallies
+finished_counts budget d0 d1 d2 lines lists tallies p ended g none = subst (AreTallies budget 0 d2.history) (sym none) (record {
+  one_each = refl;
+  place = length d0.history;
+  ended = ap end_place g.grown ∙ end_place-append d1.history g.more (length d0.history) (ended_place d0 d1 lines lists p ended);
+  right = tt;
+})

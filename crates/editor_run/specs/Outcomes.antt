@@ -7,6 +7,7 @@ use Rattle.byte_edge.specs.declared.reading.ReadStop.{ReadStop}
 use Rattle.byte_edge.specs.declared.reading.ReadStop.TheVariants as stop
 use Rattle.doc_book.specs.declared.replies.Reply.{Reply}
 use Rattle.doc_book.specs.Document.{Document}
+use Rattle.layout_worker.specs.declared.tallies.Tally.{Tally}
 use Rattle.editor_run.specs.declared.outcome.Outcome.{Outcome}
 use Rattle.editor_run.specs.declared.outcome.Fault.{Fault}
 use Rattle.editor_run.specs.declared.outcome.Fault.TheVariants as fault
@@ -43,13 +44,13 @@ OnSuccess outcome P = outcome.status ≡ 0 → WhereRun outcome P
 abbrev pub IsWhole : Outcome → Type 0
 IsWhole outcome = (outcome.status ≡ 0) ⊎ (outcome.status ≡ 6) → IsSome outcome.book × IsSome outcome.script
 
--- on every other status the outcome has no document, no script and no replies
+-- on every other status the outcome has no document, no script, no replies and no tallies
 abbrev pub IsBare : Outcome → Type 0
-IsBare outcome = ((outcome.status ≡ 0) ⊎ (outcome.status ≡ 6)) ⊎ ((outcome.book ≡ None) × (outcome.script ≡ None) × (outcome.replies ≡ []))
+IsBare outcome = ((outcome.status ≡ 0) ⊎ (outcome.status ≡ 6)) ⊎ ((outcome.book ≡ None) × (outcome.script ≡ None) × (outcome.replies ≡ []) × (outcome.tallies ≡ []))
 
 -- what a run without a script comes to
 abbrev pub failure : Fault → Outcome
-failure f = record { status = status_of f; fault = Some f; book = None; script = None; replies = [] }
+failure f = record { status = status_of f; fault = Some f; book = None; script = None; replies = []; tallies = [] }
 
 -- the status of a fault, or 0 where there is none
 abbrev pub status_or_zero : Option Fault → ℕ
@@ -57,8 +58,9 @@ status_or_zero None = 0
 status_or_zero (Some f) = status_of f
 
 -- what a run with a script comes to: success, or a fault of the sink
-abbrev pub ran : List Line → Document → List (List Reply) → Option Fault → Outcome
-ran script document replies f = record { status = status_or_zero f; fault = f; book = Some document; script = Some script; replies = replies }
+abbrev pub ran : List Line → Document → List (List Reply) → List Tally → Option Fault → Outcome
+ran script document replies tallies f =
+    record { status = status_or_zero f; fault = f; book = Some document; script = Some script; replies = replies; tallies = tallies }
 
 -- the status is 0 where there is no fault, else that of the fault
 abbrev pub HasStatus : Outcome → Type 0

@@ -6,6 +6,8 @@ use Rattle.byte_edge.specs.Taken.{TakesPart}
 use Rattle.script_text.specs.declared.scripts.Line.{Line}
 use Rattle.doc_book.specs.declared.replies.Reply.{Reply}
 use Rattle.doc_book.specs.Document.{Document}
+use Rattle.layout_worker.specs.declared.tallies.Tally.{Tally}
+use Rattle.command_line.specs.Plans.{IsAlone}
 use Rattle.command_line.specs.declared.plans.Plan.{Plan}
 use Rattle.output_text.specs.Output.{output_text}
 use Rattle.editor_run.specs.declared.outcome.Outcome.{Outcome}
@@ -13,7 +15,7 @@ use Rattle.editor_run.specs.declared.outcome.Fault.TheVariants as fault
 use Rattle.editor_run.specs.Ends.{Reading, Writing}
 use Rattle.editor_run.specs.Input.{IsInput, HasReadCauses, WhereGiven}
 use Rattle.editor_run.specs.Outcomes.{HasStatus, IsBare, IsWhole, OnSuccess, WhereRun, WritesNothing}
-use Rattle.editor_run.specs.Played.{IsRightHistory, AreOwnEntries, HaveRightReplies, AreCallers, AreInFileOrder}
+use Rattle.editor_run.specs.Played.{IsRightHistory, AreOwnEntries, HaveRightReplies, AreCallers, AreInFileOrder, AreTallies, IsPlayedToEnd}
 
 -- what a run by this plan is, on status 0 and where the sink failed
 pub record IsRun (plan : Plan) (reading : Reading) (writing : Writing) (outcome : Outcome) : Type 0 where
@@ -28,10 +30,12 @@ pub record IsRun (plan : Plan) (reading : Reading) (writing : Writing) (outcome 
   pub own_entries : WhereRun outcome (λ _ document replies. AreOwnEntries document replies)
   -- each line has one right reply, in order
   pub replies : WhereRun outcome (λ script document replies. HaveRightReplies document script replies)
-  -- sessions alone made entries before End, the run alone made the others
-  pub callers : WhereRun outcome (λ _ document replies. AreCallers document.history replies)
-  -- the lines were played in file order, over all sessions
-  pub order : WhereRun outcome (λ script _ replies. AreInFileOrder script replies)
+  -- sessions and the plan's workers alone made entries before End, the run alone made the others
+  pub callers : WhereRun outcome (λ _ document replies. AreCallers plan.workers document.history replies)
+  -- without workers the lines were played in file order, over all sessions
+  pub order : IsAlone plan → WhereRun outcome (λ script _ replies. AreInFileOrder script replies)
+  -- each worker has its tally
+  pub tallies : WhereRun outcome (λ _ document _. AreTallies plan.frames plan.workers document.history outcome.tallies)
   -- on success the sink took exactly the output of the plan
   pub output : OnSuccess outcome (λ script document replies. writing.put_after ≡ append_known writing.put_before (output_text plan script document.history replies))
 
@@ -40,9 +44,9 @@ pub record PutsPart (plan : Plan) (reading : Reading) (writing : Writing) : Type
   pub script : List Line
   pub document : Document
   pub replies : List (List Reply)
+  pub tallies : List Tally
   pub input : IsInput plan reading script
-  pub history : IsRightHistory plan.frames document
-  pub right : HaveRightReplies document script replies
+  pub played : IsPlayedToEnd plan.frames plan.workers script document replies tallies
   pub part : TakesPart writing.put_before writing.put_after (output_text plan script document.history replies)
 
 -- why a run by this plan ends with its status. `SinkKept` says that the sink is as it was

@@ -3,6 +3,7 @@ ghost use Rattle.std.specs.Prelude.{◌≡◌};
 
 use byte_edge::ReadStop;
 use doc_book::{Book, Reply};
+use layout_worker::Tally;
 use script_text::{ReadFault, Script, ScriptFault};
 use thiserror::Error;
 use units::{Memory, Sequence};
@@ -98,4 +99,6 @@ pub struct Outcome {
     pub script: Option<Script>,
     /// The replies by session: eight lists, session 1 first, on status 0 and where the sink failed.
     pub replies: Sequence<Sequence<Reply>>,
+    /// The tallies of the workers, that of worker 11 first, on status 0 and where the sink failed: one each.
+    pub tallies: Sequence<Tally>,
 }

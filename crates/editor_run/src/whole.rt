@@ -4,30 +4,28 @@ ghost use Rattle.doc_book.specs.declared.entries.Act.TheVariants as act;
 ghost use Rattle.doc_book.specs.Growing.{entry_of};
 ghost use Rattle.doc_book.specs.History.{end_place};
 ghost use Rattle.doc_book.specs.Legal.{most_frames};
-ghost use Rattle.editor_run.specs.Played.{IsRightHistory, AreOwnEntries, HaveRightReplies, AreCallers, AreInFileOrder};
+ghost use Rattle.editor_run.specs.Played.{IsPlayedToEnd};
 
 use crate::finishing::finish_all;
 use doc_book::{Book, Reply};
+use layout_worker::Tally;
 use script_text::Script;
 use session_run::play_alone;
 use std::alloc::Global;
 use units::{Memory, Sequence};
 
-/// A document that was played to its end, with the replies by session.
+/// A document that was played to its end, with the replies by session and the tallies of the workers.
 #[derive(Drop)]
 pub struct Played {
     pub book: Book,
     pub replies: Sequence<Sequence<Reply>>,
+    pub tallies: Sequence<Tally>,
 }
 
 /// Plays the lines of a script in file order, ends the document and finishes it.
 pub fn play_whole(alloc: Global, frames: u32, script: &Script) -> Result<Played, Memory>
     requires { frames ≤ most_frames }
-    ensures history { IfOk result (λ p. IsRightHistory frames p.book) }
-    ensures own_entries { IfOk result (λ p. AreOwnEntries p.book p.replies) }
-    ensures replies { IfOk result (λ p. HaveRightReplies p.book script.now p.replies) }
-    ensures callers { IfOk result (λ p. AreCallers p.book.history p.replies) }
-    ensures order { IfOk result (λ p. AreInFileOrder script.now p.replies) }
+    ensures { IfOk result (λ p. IsPlayedToEnd frames 0 script.now p.book p.replies p.tallies) }
 {
     // The lines, and the history below, are asked for what their types keep, which the proof needs.
     let _lines = script.lines();
@@ -39,6 +37,7 @@ pub fn play_whole(alloc: Global, frames: u32, script: &Script) -> Result<Played,
     Ok(Played {
         book,
         replies: Sequence::of(lists),
+        tallies: Sequence::new(alloc),
     })
 }
 

@@ -1,16 +1,28 @@
 //! What no clause says: worked scripts from bytes to bytes, statuses with their texts, and one failing call of each end.
+mod beside;
+mod faults;
+mod hostile;
+mod judging;
 mod layouts;
 mod rows;
+mod scenes;
+mod separations;
+mod sessions;
 
 use byte_edge::{MemSink, MemSource, Sink, Source, StdSink, StdSource, SureSink, SureSource};
 use command_line::Plan;
 use editor_run::{Fault, run, run_alone};
+use gate_bell::OpenGate;
 use layouts::*;
 use rows::*;
+use scenes::*;
 use script_text::{FaultKind, ScriptFault};
+use separations::*;
 use std::alloc::{AllocError, Global};
 use std::io;
+use std::sync::Wait;
 use std::test::Fail;
+use std::thread::Threads;
 
 /// How a run ended.
 #[derive(Clone, Copy)]
@@ -20,13 +32,13 @@ struct End {
 }
 
 /// The end of a run.
-fn end_of<R: AllocGlobal, S: Source, K: Sink>(
+fn end_of<R: AllocGlobal + Threads + Wait + Sync, S: Source, K: Sink>(
     rt: &R,
     words: Vec<String>,
     source: &mut S,
     sink: &mut K,
 ) -> End {
-    let outcome = run(rt, words, source, sink);
+    let outcome = run(rt, words, source, sink, &OpenGate);
     End {
         status: outcome.status,
         fault: outcome.fault,
@@ -34,7 +46,11 @@ fn end_of<R: AllocGlobal, S: Source, K: Sink>(
 }
 
 /// The end of a run without words over a source and a sink that never fail.
-fn played<R: AllocGlobal>(rt: &R, script: Vec<u8>, sink: &mut SureSink) -> End {
+fn played<R: AllocGlobal + Threads + Wait + Sync>(
+    rt: &R,
+    script: Vec<u8>,
+    sink: &mut SureSink,
+) -> End {
     let mut source = SureSource::new(script);
     end_of(rt, Vec::new(rt.alloc()), &mut source, sink)
 }
@@ -46,7 +62,11 @@ fn said(alloc: Global, end: End) -> Result<String, Fail> {
 }
 
 /// Plays the script, which prints the listing.
-fn prints<R: AllocGlobal>(rt: &R, script: &[u8], listing: &[u8]) -> Result<(), Fail> {
+fn prints<R: AllocGlobal + Threads + Wait + Sync>(
+    rt: &R,
+    script: &[u8],
+    listing: &[u8],
+) -> Result<(), Fail> {
     let alloc = rt.alloc();
     let mut sink = SureSink::new(alloc);
     let end = played(rt, script.to_vec(alloc)?, &mut sink);
@@ -108,7 +128,11 @@ fn has(bytes: &[u8], part: &[u8]) -> bool {
 }
 
 /// Plays the script, whose listing isn't determined, and looks for a part that is.
-fn shows<R: AllocGlobal>(rt: &R, script: &[u8], part: &[u8]) -> Result<(), Fail> {
+fn shows<R: AllocGlobal + Threads + Wait + Sync>(
+    rt: &R,
+    script: &[u8],
+    part: &[u8],
+) -> Result<(), Fail> {
     let alloc = rt.alloc();
     let mut sink = SureSink::new(alloc);
     let end = played(rt, script.to_vec(alloc)?, &mut sink);
@@ -163,7 +187,7 @@ fn flow_chart(rt: HostRuntime) -> Result<(), Fail> {
 }
 
 /// Runs by these words over the script, which prints the text.
-fn prints_by<R: AllocGlobal>(
+fn prints_by<R: AllocGlobal + Threads + Wait + Sync>(
     rt: &R,
     words: &[&str],
     script: &[u8],
@@ -246,7 +270,11 @@ fn texts_of_faults(rt: HostRuntime) -> Result<(), Fail> {
 }
 
 /// Plays the bytes, which end the run with this status and text; nothing is written.
-fn fails<R: AllocGlobal>(rt: &R, script: Vec<u8>, text: &str) -> Result<(), Fail> {
+fn fails<R: AllocGlobal + Threads + Wait + Sync>(
+    rt: &R,
+    script: Vec<u8>,
+    text: &str,
+) -> Result<(), Fail> {
     let mut sink = SureSink::new(rt.alloc());
     let end = played(rt, script, &mut sink);
     if said(rt.alloc(), end)?.as_str() != text {
@@ -258,26 +286,6 @@ fn fails<R: AllocGlobal>(rt: &R, script: Vec<u8>, text: &str) -> Result<(), Fail
     Ok(())
 }
 
-/// A script whose second line is longer than a line may be.
-fn long_line(alloc: Global) -> Result<Vec<u8>, AllocError> {
-    let mut script = Vec::from_slice(alloc, b"dunnart 1\n1 where ")?;
-    for _ in 0..2_041 {
-        script.push(b'a')?;
-    }
-    script.extend_from_slice(b"\nend\n")?;
-    Ok(script)
-}
-
-/// A script of one line more than a script may have.
-fn many_lines(alloc: Global) -> Result<Vec<u8>, AllocError> {
-    let mut script = Vec::from_slice(alloc, b"dunnart 1\n")?;
-    for _ in 0..2_001 {
-        script.extend_from_slice(b"1 undo\n")?;
-    }
-    script.extend_from_slice(b"end\n")?;
-    Ok(script)
-}
-
 #[test]
 fn faulty_scripts(rt: HostRuntime) -> Result<(), Fail> {
     let alloc = rt.alloc();
@@ -285,26 +293,17 @@ fn faulty_scripts(rt: HostRuntime) -> Result<(), Fail> {
         (b"dunnart 1\n1 box a 0".as_slice(), "3 line 2: Cut"),
         (FIRST_BOX_WITHOUT_END, "3 line 5: Missing"),
         (b"dunnart 1\n\xff\nend\n", "3 line 2: Session"),
-        (b"", "3 line 1: Missing"),
-        (b"dunnart 1\r\n1 undo\nend\n", "3 line 1: Header"),
-        (b"dunnart 1\n9 undo\nend\n", "3 line 2: Session"),
-        (b"dunnart 1\n1  undo\nend\n", "3 line 2: Command"),
         (b"dunnart 1\n1 layout \nend\n", "3 line 2: Fields"),
-        (b"dunnart 1\n1 box a 0 0 10 -0\nend\n", "3 line 2: Fields"),
         (LARGE_NUMBER, "3 line 2: Fields"),
-        (b"dunnart 1\nend", "3 line 2: Cut"),
-        (b"dunnart 1\nend\nx", "3 line 3: After"),
     ] {
         fails(&rt, script.to_vec(alloc)?, text)?;
     }
-    fails(&rt, long_line(alloc)?, "3 line 2: Long")?;
-    fails(&rt, many_lines(alloc)?, "3 line 2002: TooMany")?;
     fails(&rt, vec![in alloc; b'a'; 1_048_577]?, "7 input too long")
 }
 
 /// Plays the script of the first box over a source and a sink whose listed calls fail, with these words behind the
 /// program's name; nothing is written.
-fn stops<R: AllocGlobal>(
+fn stops<R: AllocGlobal + Threads + Wait + Sync>(
     rt: &R,
     words: &[&str],
     source_fails: &[u32],

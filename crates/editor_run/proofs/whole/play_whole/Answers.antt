@@ -1,7 +1,7 @@
 use Rattle.std.proofs.Common.{ap}
 use Rattle.std.specs.Option.{is_some}
-use Rattle.editor_run.proofs.Counting.{has_played, played_budget_is, in_file_order}
-use Rattle.editor_run.proofs.Together.{not_ended_by, ended_place, ended_last, finished_own, finished_replies, finished_callers, finished_history, finished_order}
+use Rattle.editor_run.proofs.Counting.{IsPlayedWhole, has_played, played_budget_is, in_file_order}
+use Rattle.editor_run.proofs.Together.{not_ended_by, ended_place, ended_last, finished_own, finished_replies, finished_callers, finished_history, finished_order, finished_counts}
 use Rattle.editor_run.proofs.whole.play_whole.Goals as goal
 
 pub end-requires : goal.end-requires
@@ -22,37 +22,22 @@ finish_all-requires-clause-last c =
     (record { script = c.lines-lines.ensures.kept; opening_is = c.new-book.ensures; alone = c.in_ok-lists.ensures }) in
     ended_last c.play_alone.new.book c.end.new.book c.args.script.now c.in_ok-lists.lists.items played c.in_ok-end.ensures
 
-pub returns-clause-history : goal.returns-clause-history
-returns-clause-history c =
-    finished_history c.args.frames c.play_alone.new.book c.end.new.book c.finish_all.new.book
-    (played_budget_is c.args.frames c.new-book.result c.play_alone.new.book c.args.script.now c.in_ok-lists.lists.items
-    (record { script = c.lines-lines.ensures.kept; opening_is = c.new-book.ensures; alone = c.in_ok-lists.ensures }))
-    c.in_ok-end.ensures c.in_ok-finish_all.ensures.grown c.history-legal.ensures.legal c.in_ok-finish_all.ensures.finished
-
-pub returns-clause-own_entries : goal.returns-clause-own_entries
-returns-clause-own_entries c =
-    let played = has_played c.args.frames c.new-book.result c.play_alone.new.book c.args.script.now c.in_ok-lists.lists.items
-    (record { script = c.lines-lines.ensures.kept; opening_is = c.new-book.ensures; alone = c.in_ok-lists.ensures }) in
-    finished_own c.play_alone.new.book c.end.new.book c.finish_all.new.book c.args.script.now c.in_ok-lists.lists.items c.of.result
-    played c.in_ok-end.ensures c.in_ok-finish_all.ensures.grown c.of.ensures
-
-pub returns-clause-replies : goal.returns-clause-replies
-returns-clause-replies c =
-    let played = has_played c.args.frames c.new-book.result c.play_alone.new.book c.args.script.now c.in_ok-lists.lists.items
-    (record { script = c.lines-lines.ensures.kept; opening_is = c.new-book.ensures; alone = c.in_ok-lists.ensures }) in
-    finished_replies c.play_alone.new.book c.end.new.book c.finish_all.new.book c.args.script.now c.in_ok-lists.lists.items c.of.result
-    played c.in_ok-end.ensures c.in_ok-finish_all.ensures.grown c.of.ensures
-
-pub returns-clause-callers : goal.returns-clause-callers
-returns-clause-callers c =
-    let played = has_played c.args.frames c.new-book.result c.play_alone.new.book c.args.script.now c.in_ok-lists.lists.items
-    (record { script = c.lines-lines.ensures.kept; opening_is = c.new-book.ensures; alone = c.in_ok-lists.ensures }) in
-    finished_callers c.play_alone.new.book c.end.new.book c.finish_all.new.book c.args.script.now c.in_ok-lists.lists.items c.of.result
-    played c.in_ok-end.ensures c.in_ok-finish_all.ensures.grown c.of.ensures
-
-pub returns-clause-order : goal.returns-clause-order
-returns-clause-order c =
-    finished_order c.args.script.now c.in_ok-lists.lists.items c.of.result
-    (in_file_order c.args.frames c.new-book.result c.play_alone.new.book c.args.script.now c.in_ok-lists.lists.items
-    (record { script = c.lines-lines.ensures.kept; opening_is = c.new-book.ensures; alone = c.in_ok-lists.ensures }))
-    c.of.ensures
+pub returns : goal.returns
+returns c =
+    let whole : IsPlayedWhole c.args.frames c.new-book.result c.play_alone.new.book c.args.script.now c.in_ok-lists.lists.items = record { script = c.lines-lines.ensures.kept; opening_is = c.new-book.ensures; alone = c.in_ok-lists.ensures } in
+    let played = has_played c.args.frames c.new-book.result c.play_alone.new.book c.args.script.now c.in_ok-lists.lists.items whole in
+    record {
+      history = finished_history c.args.frames c.play_alone.new.book c.end.new.book c.finish_all.new.book
+          (played_budget_is c.args.frames c.new-book.result c.play_alone.new.book c.args.script.now c.in_ok-lists.lists.items whole)
+          c.in_ok-end.ensures c.in_ok-finish_all.ensures.grown c.history-legal.ensures.legal c.in_ok-finish_all.ensures.finished;
+      own_entries = finished_own c.play_alone.new.book c.end.new.book c.finish_all.new.book c.args.script.now c.in_ok-lists.lists.items c.of.result
+          played c.in_ok-end.ensures c.in_ok-finish_all.ensures.grown c.of.ensures;
+      replies = finished_replies c.play_alone.new.book c.end.new.book c.finish_all.new.book c.args.script.now c.in_ok-lists.lists.items c.of.result
+          played c.in_ok-end.ensures c.in_ok-finish_all.ensures.grown c.of.ensures;
+      callers = finished_callers c.play_alone.new.book c.end.new.book c.finish_all.new.book c.args.script.now c.in_ok-lists.lists.items c.of.result
+          played c.in_ok-end.ensures c.in_ok-finish_all.ensures.grown c.of.ensures;
+      order = λ _. finished_order c.args.script.now c.in_ok-lists.lists.items c.of.result
+          (in_file_order c.args.frames c.new-book.result c.play_alone.new.book c.args.script.now c.in_ok-lists.lists.items whole) c.of.ensures;
+      counts = finished_counts c.args.frames c.play_alone.new.book c.end.new.book c.finish_all.new.book c.args.script.now c.in_ok-lists.lists.items c.new.result
+          played c.in_ok-end.ensures c.in_ok-finish_all.ensures.grown c.new.ensures;
+    }
