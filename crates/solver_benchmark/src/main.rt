@@ -1,19 +1,19 @@
-//! A benchmark of the block solver. It reads a problem from standard input, solves it as many times as its argument says (once with
-//! none), prints whether each certificate shows and how many separations were closed, and the times to standard error.
+//! A benchmark of the block solver. It reads a problem, and maybe a hint, from standard input, solves it as many times as its argument
+//! says (once with none), prints whether each certificate shows and how many separations were closed, and the times to standard error.
 #![tactic(auto)]
 
 ghost use Rattle.vpsc_solve.specs.Stops.{IsFeasible};
 
 mod problems;
 
-use crate::problems::problem_of;
+use crate::problems::{Posed, spelled};
 use cycle_test::{Verdict, test};
 use multiplier_check::shows;
 use std::io::BufReader;
 use std::time::{Duration, Instant};
 use std::{env, io};
 use units::Problem;
-use vpsc_solve::solve_counted;
+use vpsc_solve::solve_counted_from;
 
 /// The number of rounds: the first argument, 1 where there is none.
 fn rounds(rt: &HostRuntime) -> anyhow::Result<u32> {
@@ -29,12 +29,13 @@ fn rounds(rt: &HostRuntime) -> anyhow::Result<u32> {
 fn timed(
     rt: &HostRuntime,
     problem: &Problem,
+    hint: &[u16],
     times: &mut Vec<Duration>,
 ) -> anyhow::Result<Option<u64>>
     requires { IsFeasible problem.now }
 {
     let start = Instant::now(rt)?;
-    let solution = solve_counted(rt.alloc(), problem)?;
+    let solution = solve_counted_from(rt.alloc(), problem, hint)?;
     times.push(start.elapsed(rt)?)?;
     if shows(problem, &solution.certificate) {
         return Ok(Some(solution.closings));
@@ -46,11 +47,12 @@ fn timed(
 fn solve_once(
     rt: &HostRuntime,
     problem: &Problem,
+    hint: &[u16],
     times: &mut Vec<Duration>,
 ) -> anyhow::Result<Option<u64>> {
     let count = problem.desired().len() as u16;
     match test(rt.alloc(), count, problem.seps())? {
-        Verdict::Places(_) => return timed(rt, problem, times),
+        Verdict::Places(_) => return timed(rt, problem, hint, times),
         Verdict::Cycle(_) => return Ok(None),
     }
 }
@@ -58,13 +60,13 @@ fn solve_once(
 /// Solves so many times, and prints whether each certificate shows, and the closings.
 fn measure(
     rt: &HostRuntime,
-    problem: &Problem,
+    posed: &Posed,
     rounds: u32,
     times: &mut Vec<Duration>,
 ) -> anyhow::Result<()> {
     let mut last = 0;
     for _ in 0..rounds {
-        let Some(closings) = solve_once(rt, problem, times)? else {
+        let Some(closings) = solve_once(rt, &posed.problem, &posed.hint, times)? else {
             println!(rt; "shows no")?;
             return Ok(());
         };
@@ -95,11 +97,11 @@ fn main(rt: HostRuntime) -> anyhow::Result<()> {
     let rounds = rounds(&rt)?;
     let reader = BufReader::new(rt.alloc(), rt.reader())?;
     let text = io::read_to_string(rt.alloc(), reader)?;
-    let Some(problem) = problem_of(rt.alloc(), &text)? else {
+    let Some(posed) = spelled(rt.alloc(), &text)? else {
         println!(rt; "no problem")?;
         return Ok(());
     };
     let mut times = Vec::new(rt.alloc());
-    measure(&rt, &problem, rounds, &mut times)?;
+    measure(&rt, &posed, rounds, &mut times)?;
     print_times(&rt, &mut times)
 }

@@ -1,5 +1,6 @@
 //! A problem as text: the numbers of variables and of separations, then for each variable its weight and desired place, then for
-//! each separation its left and right end, its gap, and 1 where it is exact, else 0.
+//! each separation its left and right end, its gap, and 1 where it is exact, else 0; and then the numbers of separations from
+//! which the solver starts, if there are any.
 ghost use Rattle.std.specs.Prelude.{◌≤◌, ◌≡◌, nat_abs, IsTrue, All, length};
 ghost use Rattle.units.specs.Problem.{IsSeparation};
 
@@ -125,26 +126,55 @@ fn bounded(
     )))
 }
 
-/// The problem that the text spells, None where it spells none within its bounds.
-pub fn problem_of(alloc: Global, text: &str) -> Result<Option<Problem>, AllocError> {
+/// The numbers of separations from which to start, None where one is out of range.
+fn hint_of(alloc: Global, numbers: &[i64]) -> Result<Option<Vec<u16>>, AllocError> {
+    let mut hint = Vec::new(alloc);
+    for number in numbers {
+        let Ok(number) = u16::try_from(*number) else {
+            return Ok(None);
+        };
+        hint.push(number)?;
+    }
+    Ok(Some(hint))
+}
+
+/// A problem, and the numbers of separations from which the solver starts.
+#[derive(Drop)]
+pub struct Posed {
+    pub problem: Problem,
+    pub hint: Vec<u16>,
+}
+
+/// What the text spells, None where it spells no problem within its bounds.
+pub fn spelled(alloc: Global, text: &str) -> Result<Option<Posed>, AllocError> {
     let Some(numbers) = numbers_of(alloc, text)? else {
         return Ok(None);
     };
-    let [count, _, rest @ ..] = numbers.as_slice() else {
+    let [count, many, rest @ ..] = numbers.as_slice() else {
         return Ok(None);
     };
     let Ok(count) = u16::try_from(*count) else {
         return Ok(None);
     };
-    let end = 2 * count as usize;
+    let Ok(many) = u16::try_from(*many) else {
+        return Ok(None);
+    };
+    let behind_variables = 2 * count as usize;
+    let end = behind_variables + 4 * many as usize;
     if rest.len() < end {
         return Ok(None);
     }
-    let Some(variables) = variables_of(alloc, &rest[..end])? else {
+    let Some(variables) = variables_of(alloc, &rest[..behind_variables])? else {
         return Ok(None);
     };
-    let Some(separations) = separations_of(alloc, &rest[end..])? else {
+    let Some(separations) = separations_of(alloc, &rest[behind_variables..end])? else {
         return Ok(None);
     };
-    bounded(alloc, &variables.weights, &variables.desired, &separations)
+    let Some(hint) = hint_of(alloc, &rest[end..])? else {
+        return Ok(None);
+    };
+    match bounded(alloc, &variables.weights, &variables.desired, &separations)? {
+        Some(problem) => Ok(Some(Posed { problem, hint })),
+        None => Ok(None),
+    }
 }

@@ -123,10 +123,10 @@ pub record IsAsked (p : Problem) (active : List ℕ) (v : ℕ) : Type 0 where
   pub below : v < length p.separations
   pub off : Active active v → ⊥
 
-ends-below : (p : Problem) → stated.IsBounded p → EndsBelow (givens_of p)
+pub ends-below : (p : Problem) → stated.IsBounded p → EndsBelow (givens_of p)
 ends-below p h k b = let s = h.sound k no_separation b in (s.left, s.right)
 
-weighs : (p : Problem) → stated.IsBounded p → Weighs (givens_of p) (λ i. slice_index p.weights i)
+pub weighs : (p : Problem) → stated.IsBounded p → Weighs (givens_of p) (λ i. slice_index p.weights i)
 weighs p h = record { whole = λ i. refl; above = λ i b. one (slice_index p.weights i) (h.weighted i 0 (let e = h.as_long in omega (arith, b, e))).0 }
   where
     one : (n : ℕ) → 1 ≤ n → 0 < n

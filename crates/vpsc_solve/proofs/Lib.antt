@@ -12,3 +12,7 @@ pub mod Standing
 pub mod Moving
 pub mod Potential
 pub mod Starting
+pub mod Blocks
+pub mod Existing
+pub mod Taking
+pub mod Negative

@@ -1,3 +1,4 @@
 pub mod Stops
 pub mod Mirror
 pub mod Places
+pub mod Hints

@@ -11,7 +11,7 @@ use std::alloc::{AllocError, Global};
 use units::Problem;
 
 /// Takes a separation off the list.
-fn drop_separation(active: &mut Vec<u16>, number: u16)
+pub fn drop_separation(active: &mut Vec<u16>, number: u16)
     ensures { active.new.items ≡ filter (λ k. not (k == number)) active.old.items }
 {
     active.retain(|k| *k != number);

@@ -3,6 +3,8 @@
 #![tactic(auto)]
 
 mod closing;
+mod dropping;
+mod hints;
 mod mirror;
 mod next;
 mod places;
@@ -11,7 +13,7 @@ mod start;
 mod stops;
 mod violations;
 
-pub use solving::{Solution, solve, solve_counted};
+pub use solving::{Solution, solve, solve_counted_from, solve_from};
 
 #[cfg(test)]
 mod tests;

@@ -8,6 +8,7 @@ ghost use Rattle.multiplier_check.specs.Certificate.{IsCertificate};
 ghost use Rattle.vpsc_solve.specs.Places.{ArePlaced};
 
 use crate::closing::close_gap;
+use crate::hints::first_list;
 use crate::mirror::turned_problem;
 use crate::places::{Place, settle};
 use crate::start::all_places;
@@ -67,7 +68,7 @@ fn close(
 
 /// Closes one violated separation after another, the first first, until none is left, and counts them.
 ///
-/// It goes on from any list of active separations that has a state at rest; a start from hints is a call with another list.
+/// It goes on from any list of active separations that has a state at rest.
 fn close_all(
     alloc: Global,
     problem: &Problem,
@@ -107,13 +108,13 @@ struct SolvedList {
     closings: u64,
 }
 
-/// The active separations at the end of a run that begins with none: each variable stands at its desired place.
-fn solved_list(alloc: Global, problem: &Problem) -> Result<SolvedList, AllocError>
+/// The active separations at the end of a run that begins with those of a hint.
+fn solved_list(alloc: Global, problem: &Problem, hint: &[u16]) -> Result<SolvedList, AllocError>
     requires { IsFeasible problem.now }
     ensures active { IfOk result (λ solved. IsActive problem.now solved.active.items) }
     ensures solved { IfOk result (λ solved. IsSolved problem.now solved.active.items) }
 {
-    let mut active = Vec::new(alloc);
+    let mut active = first_list(alloc, problem, hint)?;
     let mut places = all_places(alloc, problem, &active)?;
     let closings = close_all(alloc, problem, &mut active, &mut places)?;
     Ok(SolvedList { active, closings })
@@ -128,15 +129,19 @@ pub struct Solution {
     pub closings: u64,
 }
 
-/// As `solve`, with the number of closings, which a benchmark prints.
-pub fn solve_counted(alloc: Global, problem: &Problem) -> Result<Solution, Memory>
+/// As `solve_from`, with the number of closings, which a benchmark prints.
+pub fn solve_counted_from(
+    alloc: Global,
+    problem: &Problem,
+    hint: &[u16],
+) -> Result<Solution, Memory>
     requires { IsFeasible problem.now }
     ensures shows { IfOk result (λ solution. IsCertificate problem.now solution.certificate) }
     ensures projection { IfOk result (λ solution. IsProjection problem.now solution.certificate.places) }
 {
     // Asked for what its type keeps, which the proof needs.
     let _seps = problem.seps();
-    let end = solved_list(alloc, problem)?;
+    let end = solved_list(alloc, problem, hint)?;
     let certificate = certificate_of(alloc, problem, &end.active)?;
     Ok(Solution {
         certificate,
@@ -156,9 +161,23 @@ pub fn solve(alloc: Global, problem: &Problem) -> Result<Certificate, Memory>
     ensures shows { IfOk result (IsCertificate problem.now) }
     ensures projection { IfOk result (λ certificate. IsProjection problem.now certificate.places) }
 {
+    solve_from(alloc, problem, &[])
+}
+
+/// As `solve`, from a hint: the numbers of separations that may be active at the end, as those with multipliers other than 0 in the
+/// certificate of a problem like this one. Every list is a hint, and all give the one projection; a near one saves closings.
+///
+/// The first active list comes from the hint, in order: each separation whose number is one of the problem and whose ends are in
+/// different blocks of those taken before; others are passed over. Then separations that aren't exact and whose multipliers at rest
+/// are below 0 are dropped, until there is none, and it goes on as `solve`.
+pub fn solve_from(alloc: Global, problem: &Problem, hint: &[u16]) -> Result<Certificate, Memory>
+    requires { IsFeasible problem.now }
+    ensures shows { IfOk result (IsCertificate problem.now) }
+    ensures projection { IfOk result (λ certificate. IsProjection problem.now certificate.places) }
+{
     let Solution {
         certificate,
         closings: _,
-    } = solve_counted(alloc, problem)?;
+    } = solve_counted_from(alloc, problem, hint)?;
     Ok(certificate)
 }

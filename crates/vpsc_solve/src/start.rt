@@ -8,7 +8,7 @@ use std::alloc::{AllocError, Global};
 use units::Problem;
 
 /// The numbers of all variables.
-fn all_variables(alloc: Global, count: usize) -> Result<Vec<u16>, AllocError>
+pub fn all_variables(alloc: Global, count: usize) -> Result<Vec<u16>, AllocError>
     requires { count ≤ 258 }
     ensures counted { IfOk result (λ all. length all.items ≡ count) }
     ensures each { IfOk result (λ all. (k : ℕ) → k < count → slice_index all.items k ≡ k) }

@@ -1,6 +1,9 @@
 //! Problems whose projections are known from elsewhere: worked rows, cycles, copies and long chains.
-ghost use Rattle.std.specs.Prelude.{◌≤◌, ◌<◌, ℕ, All, IsTrue, length, nat_abs};
+mod warm;
+
+ghost use Rattle.std.specs.Prelude.{◌≤◌, ◌<◌, ℕ, All, IfOk, IsTrue, length, nat_abs};
 ghost use Rattle.units.specs.Problem.{IsSeparation, IsBounded};
+ghost use Rattle.vpsc_solve.specs.Stops.{IsFeasible};
 
 use crate::solve;
 use cycle_test::{Verdict, test};
@@ -59,13 +62,41 @@ fn are_sound(count: u16, seps: &[Sep]) -> bool
     })
 }
 
-/// The certificate of a problem, where some placement satisfies its separations.
-fn certificate_of(alloc: Global, problem: &Problem) -> Result<Certificate, Fail> {
+/// Answers an error where no placement satisfies the separations.
+fn some_placement(alloc: Global, problem: &Problem) -> Result<(), Fail>
+    ensures { IfOk result (λ _. IsFeasible problem.now) }
+{
     let count = problem.desired().len() as u16;
     match test(alloc, count, problem.seps())? {
-        Verdict::Places(_) => return Ok(solve(alloc, problem)?),
+        Verdict::Places(_) => return Ok(()),
         Verdict::Cycle(_) => return Err("no placement".into()),
     }
+}
+
+/// The certificate of a problem, where some placement satisfies its separations.
+fn certificate_of(alloc: Global, problem: &Problem) -> Result<Certificate, Fail> {
+    some_placement(alloc, problem)?;
+    Ok(solve(alloc, problem)?)
+}
+
+/// The problem of these lists, where they are within its bounds.
+fn problem_of(
+    rt: &impl Abort,
+    alloc: Global,
+    weights: &[u32],
+    desired: &[i64],
+    seps: &[Sep],
+) -> Result<Problem, Fail> {
+    assert!(rt; desired.len() <= 258 && seps.len() <= 2048);
+    assert!(rt; weights.len() == desired.len());
+    assert!(rt; are_weights(weights));
+    assert!(rt; are_near(desired));
+    assert!(rt; are_sound(desired.len() as u16, seps));
+    Ok(Problem::new(
+        weights.to_vec(alloc)?,
+        desired.to_vec(alloc)?,
+        seps.to_vec(alloc)?,
+    ))
 }
 
 /// The certificate of the problem of these lists, where they are within its bounds and some placement satisfies the separations.
@@ -76,16 +107,7 @@ fn shown(
     desired: &[i64],
     seps: &[Sep],
 ) -> Result<Certificate, Fail> {
-    assert!(rt; desired.len() <= 258 && seps.len() <= 2048);
-    assert!(rt; weights.len() == desired.len());
-    assert!(rt; are_weights(weights));
-    assert!(rt; are_near(desired));
-    assert!(rt; are_sound(desired.len() as u16, seps));
-    let problem = Problem::new(
-        weights.to_vec(alloc)?,
-        desired.to_vec(alloc)?,
-        seps.to_vec(alloc)?,
-    );
+    let problem = problem_of(rt, alloc, weights, desired, seps)?;
     let certificate = certificate_of(alloc, &problem)?;
     assert!(rt; shows(&problem, &certificate));
     Ok(certificate)
