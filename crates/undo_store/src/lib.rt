@@ -1,12 +1,15 @@
 //! The standing edits and their scene, with undo.
 #![tactic(auto)]
 
+mod copies;
 mod laws;
-mod replaying;
+mod records;
 mod stand;
 
 pub use laws::stand_law;
 pub use stand::{MOST_EDITS, Stand};
 
+#[cfg(test)]
+mod test_scenes;
 #[cfg(test)]
 mod tests;

@@ -4,7 +4,7 @@ ghost use Rattle.edit_rules.specs.Effects.{scene_of, edited};
 ghost use Rattle.edit_rules.specs.Refusals.{refusal_of};
 ghost use Rattle.undo_store.specs.Along.{without_last};
 
-use crate::replaying::replayed;
+use crate::records::{Record, record_of, take_back};
 use edit_rules::{Edit, apply};
 use scene_model::Scene;
 use std::alloc::Global;
@@ -14,18 +14,25 @@ use units::Memory;
 /// The most edits that stand.
 pub const MOST_EDITS: u32 = 20_000;
 
-/// Standing edits, in order, with their scene. Its type keeps that the scene is that of the edits, each of which was
-/// accepted by the scene of those before it. Contracts see the list of edits.
+/// Standing edits, in order, with their scene, and for each edit a record that takes it back. Its type keeps that the
+/// scene is that of the edits, each of which was accepted by the scene of those before it. Contracts see the list of
+/// edits.
 pub struct Stand {
     edits: Vec<Edit>,
+    records: Vec<Record>,
     scene: Scene,
 }
 
 // Written out, as that of `Scene`.
 impl Drop for Stand {
     fn drop(self) {
-        let Stand { edits, scene } = self;
+        let Stand {
+            edits,
+            records,
+            scene,
+        } = self;
         drop(edits);
+        drop(records);
         drop(scene);
     }
 }
@@ -39,7 +46,7 @@ impl Model for Stand {
 
     ghost view = { λ a. a.edits.items };
 
-    ghost invariant = { λ a. IsKept a.edits.items a.scene };
+    ghost invariant = { λ a. IsKept a.edits.items a.records.items a.scene };
 }
 
 impl Stand {
@@ -49,6 +56,7 @@ impl Stand {
     {
         Stand {
             edits: Vec::new(alloc),
+            records: Vec::new(alloc),
             scene: Scene::empty(alloc),
         }
     }
@@ -76,13 +84,18 @@ impl Stand {
         ensures pushed { OnOk result (self.new ≡ self.old ++ edit ∷ []) }
         ensures unchanged { OnErr result (self.new ≡ self.old) }
     {
-        let scene = self.scene_after(alloc, &edit)?;
-        self.edits.push(edit)?;
-        self.scene = scene;
+        let back = record_of(alloc, &self.scene, &edit)?;
+        let copy = edit.copy(alloc)?;
+        self.edits.reserve(1)?;
+        self.records.reserve(1)?;
+        apply(&mut self.scene, copy)?;
+        self.edits.push_reserved(edit);
+        self.records.push_reserved(back);
         Ok(())
     }
 
-    /// Takes the last edit off, and tells whether one stood. After want of memory all is as before.
+    /// Takes the last edit off, and tells whether one stood; where none did, no memory is taken. After want of memory all is
+    /// as before.
     pub fn undo(&mut self, alloc: Global) -> Result<bool, Memory>
         ensures told { IfOk result (λ stood. stood ≡ nat_lt 0 (length self.old)) }
         ensures undone { OnOk result (self.new ≡ without_last self.old) }
@@ -92,9 +105,9 @@ impl Stand {
         if count == 0 {
             return Ok(false);
         }
-        let scene = self.scene_before(alloc)?;
+        take_back(alloc, &mut self.scene, &self.records[count - 1])?;
         self.edits.truncate(count - 1);
-        self.scene = scene;
+        self.records.truncate(count - 1);
         Ok(true)
     }
 
@@ -114,6 +127,8 @@ impl Stand {
         ensures { IfOk result (λ scene. scene ≡ scene_of (without_last self.now)) }
     {
         let count = self.len() as usize;
-        replayed(alloc, self.edits.as_slice(), count - 1)
+        let mut scene = self.scene.copy(alloc)?;
+        take_back(alloc, &mut scene, &self.records[count - 1])?;
+        Ok(scene)
     }
 }
