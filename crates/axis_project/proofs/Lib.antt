@@ -1,3 +1,10 @@
+pub mod Axes
+pub mod Chains
+pub mod Components
+pub mod Gathering
 pub mod ItemVariables
+pub mod KeysAndRanks
 pub mod Projected
 pub mod Separated
+pub mod Those
+pub mod Together

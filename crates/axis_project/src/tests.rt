@@ -4,6 +4,8 @@ ghost use Rattle.scene_model.specs.Separations.{separations};
 ghost use Rattle.scene_model.specs.Sound.{IsCoordinate};
 ghost use Rattle.sep_gen.specs.Feasibility.{IsFeasibleAxis};
 
+mod at_once;
+
 use crate::project;
 use cycle_test::{Verdict, test};
 use frac128::Frac;
@@ -41,8 +43,10 @@ fn add_box(scene: &mut Scene, name: Name, x: i32, held: bool) -> Result<(), Fail
     Ok(())
 }
 
-/// Sets b at least 20 behind a on X. The compound has a new name, there is room for it, and a and b stand.
-fn add_apart(scene: &mut Scene, name: Name, a: Name, b: Name) -> Result<(), Fail> {
+/// Sets b at least the gap behind a on X. The compound has a new name, there is room for it, and a and b stand.
+fn add_apart(scene: &mut Scene, name: Name, a: Name, b: Name, gap: i32) -> Result<(), Fail>
+    requires { IsCoordinate gap }
+{
     if scene.lookup(&name).is_some() {
         return Err("a new name".into());
     }
@@ -62,7 +66,7 @@ fn add_apart(scene: &mut Scene, name: Name, a: Name, b: Name) -> Result<(), Fail
         axis: Axis::X,
         a,
         b,
-        gap: 20,
+        gap,
         exact: false,
     };
     scene.add(Thing::Compound(Compound { name, rule }))?;
@@ -75,7 +79,7 @@ fn add_two_apart(scene: &mut Scene, held: bool) -> Result<(), Fail> {
     let b = named(b"b")?;
     add_box(scene, a, 0, held)?;
     add_box(scene, b, 4, false)?;
-    add_apart(scene, named(b"s")?, a, b)
+    add_apart(scene, named(b"s")?, a, b, 20)
 }
 
 /// Whether the desired places are within the bounds of a problem.

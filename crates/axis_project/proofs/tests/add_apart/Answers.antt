@@ -1,4 +1,4 @@
-use Rattle.std.proofs.Common.{◌≡◌, true, false, arith}
+use Rattle.std.proofs.Common.{◌≡◌, true, false, rules}
 use Rattle.units.specs.declared.geometry.Axis.TheVariants.{X}
 use Rattle.scene_model.specs.declared.uses.Wanted.TheVariants as wanted
 use Rattle.scene_model.specs.Names.{same_name}
@@ -15,4 +15,4 @@ add-requires-clause-sound c =
     let differ : same_name a b ≡ false = cc in
     let first : stands_as shapes guides (wanted.Placed X) a ≡ true = cc in
     let second : stands_as shapes guides (wanted.Placed X) b ≡ true = cc in
-    record { gap = omega arith; user = two shapes guides (wanted.Placed X) a b differ first second }
+    record { gap = search (rules, c.requires); user = two shapes guides (wanted.Placed X) a b differ first second }
