@@ -15,7 +15,7 @@ use std::thread::{Threads, for_each_mut};
 pub(crate) const MOST_SESSIONS: usize = 8;
 
 /// Plays those of the lines that are the session's.
-fn play_one<R: Wait, G: Gate>(
+fn play_one<R: Threads + Wait + Sync, G: Gate>(
     rt: &R,
     alloc: Global,
     gate: &G,
@@ -29,7 +29,7 @@ fn play_one<R: Wait, G: Gate>(
 {
     let who = session.pass.who();
     let mut caller = Caller::new(rt, book, &mut session.pass, bell);
-    session.replies = play(alloc, &mut caller, gate, who, lines).ok();
+    session.replies = play(rt, alloc, &mut caller, gate, who, lines).ok();
 }
 
 /// Plays all sessions, each in a thread of its own, which are lent the same lines.

@@ -14,7 +14,7 @@ use std::thread::{Threads, for_each_mut};
 pub(crate) const MOST_WORKERS: usize = 8;
 
 /// Works until the document is ended, the budget of frames is used up, or memory is wanting.
-fn work_one<R: Wait, G: Gate>(
+fn work_one<R: Threads + Wait + Sync, G: Gate>(
     rt: &R,
     alloc: Global,
     gate: &G,

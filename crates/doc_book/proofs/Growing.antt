@@ -6,6 +6,7 @@ use Rattle.std.proofs.lemmas.List.{same_from_push, append-nil}
 use Rattle.edit_rules.specs.declared.edits.Edit.{Edit}
 use Rattle.edit_rules.specs.Effects.{edited, scene_of}
 use Rattle.doc_book.specs.declared.entries.Entry.{Entry}
+use Rattle.doc_book.specs.Hints.{no_hints, hints_after, hints_at}
 use Rattle.doc_book.specs.History.{edits_after, standing, scene_at, places_at, places_after, Moment, next_moment, moment_of, is_end, is_frame, end_place, after_end, IsSettled}
 use Rattle.doc_book.specs.Legal.{MayFollow, AllMayFollow, IsLegal}
 
@@ -33,6 +34,10 @@ scene_at-push h e = ap scene_of (fold-push (λ edits (x : Entry). edits_after ed
 -- the scene of the standing edits with one more
 pub scene_of-push : (edits : List Edit) (e : Edit) → scene_of (edits ++ e ∷ []) ≡ edited e (scene_of edits)
 scene_of-push edits e = fold-push (λ d x. edited x d) _ edits e
+
+-- the separations that push in the last frame, after one more entry
+pub hints_at-push : (h : List Entry) (e : Entry) → hints_at (h ++ e ∷ []) ≡ hints_after (hints_at h) e.act
+hints_at-push h e = fold-push (λ hints (x : Entry). hints_after hints x.act) no_hints h e
 
 -- ---- End
 

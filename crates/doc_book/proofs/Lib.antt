@@ -8,6 +8,7 @@ pub mod Jobs
 pub mod Keeping
 pub mod Later
 pub mod Playing
+pub mod Pushing
 pub mod Refusing
 pub mod Running
 pub mod Stepping

@@ -9,6 +9,7 @@ use Rattle.doc_book.specs.declared.replies.Reply.TheVariants as reply
 use Rattle.doc_book.specs.Document.{Document}
 use Rattle.doc_book.specs.Events.{Event, Replied, Found, Settled, Full, Memory}
 use Rattle.doc_book.specs.Growing.{Grows, entry_of}
+use Rattle.doc_book.specs.Hints.{hints_at}
 use Rattle.doc_book.specs.History.{scene_at, places_at}
 use Rattle.doc_book.specs.Steps.{IsStep, IsAskStep, IsLookStep, IsPublishStep, IsFinishStep}
 use Rattle.doc_book.specs.declared.looking.Look.{Look}
@@ -31,11 +32,12 @@ abbrev pub IsAsked : Document → NameOf → Result Answer Refused → Type 0
 IsAsked document name (Ok answer) = IsAskStep document document name (Replied (reply.Answer answer))
 IsAsked document name (Err r) = IsAskStep document document name (Replied (reply.Refused r))
 
--- a job has the scene and places of the whole history
+-- a job has the scene and places of the whole history, and the separations that push in its last frame
 pub record IsPresent (document : Document) (job : JobOf) : Type 0 where
   pub front_is : job.front ≡ length document.history
   pub scene_is : job.scene ≡ scene_at document.history
   pub places_are : job.places ≡ places_at document.history
+  pub hints_are : job.hints ≡ hints_at document.history
 
 -- a look answers what it finds, and a job is of the present scene and places. Each is a step that any caller may make
 abbrev pub IsLooked : Document → Look → Type 0

@@ -4,6 +4,7 @@ use Rattle.scene_model.specs.Diagram.{Diagram}
 use Rattle.frame_store.specs.declared.places.Places.{Places}
 use Rattle.frame_store.specs.declared.frames.Frame.{Frame}
 use Rattle.doc_book.specs.declared.entries.Entry.{Entry}
+use Rattle.doc_book.specs.declared.hints.Hints.{Hints}
 use Rattle.doc_book.specs.Frames.{IsFrameOf}
 use Rattle.doc_book.specs.History.{scene_at, places_at}
 use Rattle.doc_book.specs.Layable.{IsLayable}
@@ -17,11 +18,12 @@ pub record IsJobOf (h : List Entry) (budget front : ℕ) (scene : Diagram) (plac
   pub places_are : places ≡ places_at (take front h)
   pub found : IsLook (take front h) budget Job
 
--- the scene and places of a document, and the front at which they were taken
+-- the scene and places of a document, the front at which they were taken, and where the layout starts
 pub record JobOf : Type 0 where
   pub front : ℕ
   pub scene : Diagram
   pub places : Places
+  pub hints : Hints
 
 -- a job, and a frame that was made of it
 pub record SolvedOf : Type 0 where

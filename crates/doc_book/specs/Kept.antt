@@ -11,6 +11,8 @@ use Rattle.edit_rules.specs.Effects.{edited, scene_of}
 use Rattle.edit_rules.specs.Refusals.{most_separations}
 use Rattle.frame_store.specs.declared.places.Places.{Places}
 use Rattle.doc_book.specs.declared.entries.Entry.{Entry}
+use Rattle.doc_book.specs.declared.hints.Hints.{Hints}
+use Rattle.doc_book.specs.Hints.{hints_at}
 use Rattle.doc_book.specs.History.{standing, scene_at, places_at, end_place, frame_count, after_end, IsSettled}
 use Rattle.doc_book.specs.Legal.{most_frames, most_finishing, IsLegal}
 use Rattle.doc_book.specs.Verdicts.{most_entries}
@@ -47,9 +49,10 @@ pub record IsKept (h : List Entry) (budget : ℕ) (scene : Diagram) (places : Pl
   pub budget_small : budget ≤ most_frames
   pub counts : MatchOption (end_place h) (IsOpenCount h budget) (λ _. IsEndedCount h budget)
 
--- the stand is that of the history, whose scene and places are kept beside it. That no axis has more separations than it
--- may follows from what the stand's scenes were
-pub record IsBook (h : List Entry) (budget : ℕ) (stand : List Edit) (places : Places) (settled : Bool) : Type 0 where
+-- the stand is that of the history, whose scene and places are kept beside it, and so are the hints. That no axis has more
+-- separations than it may follows from what the stand's scenes were
+pub record IsBook (h : List Entry) (budget : ℕ) (stand : List Edit) (places : Places) (settled : Bool) (hints : Hints) : Type 0 where
   pub stand_is : stand ≡ standing h
   pub sound : AllSound empty_diagram stand
   pub kept : IsKept h budget (scene_of stand) places settled
+  pub hints_are : hints ≡ hints_at h

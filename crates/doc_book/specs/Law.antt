@@ -1,5 +1,5 @@
 -- What holds after every run of calls.
-use Rattle.std.specs.Prelude.{◌≡◌, ℕ, List, [], ◌∷◌, ◌++◌, MatchOption, ⊤}
+use Rattle.std.specs.Prelude.{◌≡◌, ℕ, List, [], ◌∷◌, MatchOption, ⊤}
 use Rattle.doc_book.specs.declared.entries.Entry.{Entry}
 use Rattle.doc_book.specs.declared.entries.Act.TheVariants as act
 use Rattle.doc_book.specs.Events.{Event, Edits, Undoes, Asks, Looks, Publishes, Ends, Finishes, Said, Replied, caller_of, line_of, seen_before}

@@ -5,6 +5,7 @@ pub mod Events
 pub mod Finished
 pub mod Frames
 pub mod Growing
+pub mod Hints
 pub mod History
 pub mod Jobs
 pub mod Kept

@@ -3,11 +3,13 @@ ghost use Rattle.std.specs.Prelude.{◌≡◌, ◌↔◌, ◌≤◌, ◌<◌, �
 ghost use Rattle.units.specs.declared.geometry.Axis.TheVariants as axes;
 ghost use Rattle.scene_model.specs.Variables.{variables};
 ghost use Rattle.doc_book.specs.Document.{Document, opened};
+ghost use Rattle.doc_book.specs.Hints.{hints_at};
 ghost use Rattle.doc_book.specs.History.{scene_at, places_at, IsSettled};
 ghost use Rattle.doc_book.specs.Layable.{IsLayable};
 ghost use Rattle.doc_book.specs.Legal.{most_frames, IsLegal};
 
 use crate::entries::Entry;
+use crate::hints::Hints;
 use frame_store::Places;
 use scene_model::Scene;
 use std::alloc::Global;
@@ -17,10 +19,9 @@ use undo_store::Stand;
 /// The most frames that a budget allows before End.
 pub const MOST_FRAMES: u32 = 512;
 
-/// A document: the history of its entries, with the standing edits, their scene, and the places that it
-/// leads to. Its type keeps that
-/// the history is legal by its budget, and that stand and places are those of the history. Contracts see the history
-/// and the budget.
+/// A document: the history of its entries, with the standing edits, their scene, the places that it leads to, and the
+/// separations that push in its last frame. Its type keeps that the history is legal by its budget, and that all else is of
+/// the history. Contracts see the history and the budget.
 pub struct Book {
     pub(crate) history: Vec<Entry>,
     pub(crate) stand: Stand,
@@ -28,6 +29,8 @@ pub struct Book {
     pub(crate) budget: u32,
     /// Whether the last entry is a frame that changed no place.
     pub(crate) settled: bool,
+    /// The separations that push in the last frame.
+    pub(crate) hints: Hints,
 }
 
 impl Model for Book {
@@ -38,7 +41,7 @@ impl Model for Book {
 
     ghost view = { λ a. record { history = a.history.items; budget = a.budget } };
 
-    ghost invariant = { λ a. IsBook a.history.items a.budget a.stand a.places a.settled };
+    ghost invariant = { λ a. IsBook a.history.items a.budget a.stand a.places a.settled a.hints };
 }
 
 // Written out, so that each exit of a function that owns a book is one call.
@@ -50,10 +53,12 @@ impl Drop for Book {
             places,
             budget: _,
             settled: _,
+            hints,
         } = self;
         drop(history);
         drop(stand);
         drop(places);
+        drop(hints);
     }
 }
 
@@ -69,6 +74,7 @@ impl Book {
             places: Places::none(alloc),
             budget: frames,
             settled: false,
+            hints: Hints::none(alloc),
         }
     }
 
@@ -101,6 +107,13 @@ impl Book {
         ensures { IsTrue result ↔ IsSettled self.now.history }
     {
         self.settled
+    }
+
+    /// The separations that push in the last frame, where the next layout starts.
+    pub(crate) fn hints(&self) -> &Hints
+        ensures { result.now ≡ hints_at self.now.history }
+    {
+        &self.hints
     }
 
     /// The scene of the history.

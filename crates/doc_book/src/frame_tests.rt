@@ -6,6 +6,7 @@ use multiplier_check::Certificate;
 use scene_model::{AlignLine, Form};
 use std::alloc::Global;
 use std::test::Fail;
+use std::thread::Threads;
 use units::{Axis, Members, Name};
 
 fn named(letter: u8) -> Result<Name, Fail> {
@@ -78,11 +79,11 @@ fn edited(alloc: Global, edits: Vec<Edit>) -> Result<Book, Fail> {
 }
 
 /// The next frame of a document.
-fn next_frame(alloc: Global, book: &Book) -> Result<Solved, Fail> {
+fn next_frame<R: Threads + Sync>(rt: &R, alloc: Global, book: &Book) -> Result<Solved, Fail> {
     let Look::Job(job) = book.look(alloc) else {
         return Err("a job".into());
     };
-    Ok(Solved::of(alloc, job)?)
+    Ok(Solved::of(rt, alloc, job)?)
 }
 
 /// Whether the fractions have these numerators and denominators.
@@ -104,30 +105,31 @@ fn is(certificate: &Certificate, places: &[(i128, i64)], multipliers: &[(i128, i
 }
 
 /// Compares the first frame after these edits on X with the places and multipliers that are wanted.
-fn compare(
+fn compare<R: Threads + Sync>(
+    rt: &R,
     alloc: Global,
     edits: Vec<Edit>,
     places: &[(i128, i64)],
     multipliers: &[(i128, i64)],
 ) -> Result<(), Fail> {
     let book = edited(alloc, edits)?;
-    let solved = next_frame(alloc, &book)?;
+    let solved = next_frame(rt, alloc, &book)?;
     if !is(&solved.frame().x, places, multipliers) {
         return Err("the frame".into());
     }
     Ok(())
 }
 
-fn two_apart(alloc: Global) -> Result<(), Fail> {
+fn two_apart<R: Threads + Sync>(rt: &R, alloc: Global) -> Result<(), Fail> {
     let edits = vec![in alloc;
         a_box(b'a', 0, 10)?,
         a_box(b'b', 4, 10)?,
         apart(b's', b'a', b'b', 20)?,
     ]?;
-    compare(alloc, edits, &[(-8, 1), (12, 1)], &[(16, 1)])
+    compare(rt, alloc, edits, &[(-8, 1), (12, 1)], &[(16, 1)])
 }
 
-fn chain_of_three(alloc: Global) -> Result<(), Fail> {
+fn chain_of_three<R: Threads + Sync>(rt: &R, alloc: Global) -> Result<(), Fail> {
     let edits = vec![in alloc;
         a_box(b'a', 0, 10)?,
         a_box(b'b', 0, 10)?,
@@ -136,10 +138,10 @@ fn chain_of_three(alloc: Global) -> Result<(), Fail> {
         apart(b't', b'b', b'c', 5)?,
     ]?;
     let places = [(-14, 3), (1, 3), (16, 3)];
-    compare(alloc, edits, &places, &[(28, 3), (26, 3)])
+    compare(rt, alloc, edits, &places, &[(28, 3), (26, 3)])
 }
 
-fn dropped_separation(alloc: Global) -> Result<(), Fail> {
+fn dropped_separation<R: Threads + Sync>(rt: &R, alloc: Global) -> Result<(), Fail> {
     let edits = vec![in alloc;
         a_box(b'a', 0, 10)?,
         a_box(b'b', 0, 10)?,
@@ -148,10 +150,10 @@ fn dropped_separation(alloc: Global) -> Result<(), Fail> {
         apart(b't', b'c', b'b', 10)?,
     ]?;
     let places = [(0, 1), (5, 1), (-5, 1)];
-    compare(alloc, edits, &places, &[(0, 1), (10, 1)])
+    compare(rt, alloc, edits, &places, &[(0, 1), (10, 1)])
 }
 
-fn held_shape(alloc: Global) -> Result<(), Fail> {
+fn held_shape<R: Threads + Sync>(rt: &R, alloc: Global) -> Result<(), Fail> {
     let edits = vec![in alloc;
         a_box(b'a', 0, 10)?,
         Edit::Hold { name: named(b'a')? },
@@ -159,10 +161,10 @@ fn held_shape(alloc: Global) -> Result<(), Fail> {
         apart(b's', b'a', b'b', 20)?,
     ]?;
     let places = [(-16, 1001), (20004, 1001)];
-    compare(alloc, edits, &places, &[(32000, 1001)])
+    compare(rt, alloc, edits, &places, &[(32000, 1001)])
 }
 
-fn align_mid(alloc: Global) -> Result<(), Fail> {
+fn align_mid<R: Threads + Sync>(rt: &R, alloc: Global) -> Result<(), Fail> {
     let edits = vec![in alloc;
         a_box(b'a', 0, 5)?,
         a_box(b'b', 20, 6)?,
@@ -180,7 +182,7 @@ fn align_mid(alloc: Global) -> Result<(), Fail> {
         },
     ]?;
     let places = [(23, 1), (22, 1), (20, 1), (25, 1)];
-    compare(alloc, edits, &places, &[(-46, 1), (-4, 1), (40, 1)])
+    compare(rt, alloc, edits, &places, &[(-46, 1), (-4, 1), (40, 1)])
 }
 
 /// Three boxes of 40, each at least 40 behind the one before.
@@ -199,7 +201,7 @@ fn row_of_three(alloc: Global) -> Result<Vec<Edit>, Fail> {
 }
 
 /// A rigid page is as wide as was declared: the row needs 120, and fits one of 120 alone.
-fn rigid_page(alloc: Global) -> Result<(), Fail> {
+fn rigid_page<R: Threads + Sync>(rt: &R, alloc: Global) -> Result<(), Fail> {
     let mut book = edited(alloc, row_of_three(alloc)?)?;
     if book.edit(alloc, 1, 2, page(100, 100, true)?).is_ok() {
         return Err("a page that is too narrow".into());
@@ -207,7 +209,7 @@ fn rigid_page(alloc: Global) -> Result<(), Fail> {
     if book.edit(alloc, 1, 2, page(120, 100, true)?).is_err() {
         return Err("a page that is wide enough".into());
     }
-    let solved = next_frame(alloc, &book)?;
+    let solved = next_frame(rt, alloc, &book)?;
     let places = [(0, 1), (40, 1), (80, 1), (0, 1), (120, 1)];
     if !are(solved.frame().x.places.as_slice(), &places) {
         return Err("the frame".into());
@@ -215,7 +217,7 @@ fn rigid_page(alloc: Global) -> Result<(), Fail> {
     Ok(())
 }
 
-fn group(alloc: Global) -> Result<(), Fail> {
+fn group<R: Threads + Sync>(rt: &R, alloc: Global) -> Result<(), Fail> {
     let edits = vec![in alloc;
         a_box(b'a', 0, 10)?,
         a_box(b'b', 30, 10)?,
@@ -227,47 +229,47 @@ fn group(alloc: Global) -> Result<(), Fail> {
     ]?;
     let places = [(0, 1), (30, 1), (-5, 1), (45, 1)];
     let none = [(0, 1), (0, 1), (0, 1), (0, 1), (0, 1)];
-    compare(alloc, edits, &places, &none)
+    compare(rt, alloc, edits, &places, &none)
 }
 
-fn soft_page(alloc: Global) -> Result<(), Fail> {
+fn soft_page<R: Threads + Sync>(rt: &R, alloc: Global) -> Result<(), Fail> {
     let edits = vec![in alloc; a_box(b'a', -10, 10)?, page(50, 50, false)?]?;
     let places = [(-10, 101), (-10, 101), (50, 1)];
-    compare(alloc, edits, &places, &[(2000, 101), (0, 1), (0, 1)])
+    compare(rt, alloc, edits, &places, &[(2000, 101), (0, 1), (0, 1)])
 }
 
-fn linked_pair(alloc: Global) -> Result<(), Fail> {
+fn linked_pair<R: Threads + Sync>(rt: &R, alloc: Global) -> Result<(), Fail> {
     let edits = vec![in alloc;
         a_box(b'a', 0, 10)?,
         a_box(b'b', 200, 10)?,
         link(b'a', b'b')?,
     ]?;
-    compare(alloc, edits, &[(50, 1), (150, 1)], &[])
+    compare(rt, alloc, edits, &[(50, 1), (150, 1)], &[])
 }
 
-fn coincident_pair(alloc: Global) -> Result<(), Fail> {
+fn coincident_pair<R: Threads + Sync>(rt: &R, alloc: Global) -> Result<(), Fail> {
     let edits = vec![in alloc; a_box(b'a', 0, 10)?, a_box(b'b', 0, 10)?, link(b'a', b'b')?]?;
-    compare(alloc, edits, &[(-49, 1), (49, 1)], &[])
+    compare(rt, alloc, edits, &[(-49, 1), (49, 1)], &[])
 }
 
 #[test]
 fn frames_of_separations(rt: HostRuntime) -> Result<(), Fail> {
-    two_apart(rt.alloc())?;
-    chain_of_three(rt.alloc())?;
-    dropped_separation(rt.alloc())?;
-    held_shape(rt.alloc())
+    two_apart(&rt, rt.alloc())?;
+    chain_of_three(&rt, rt.alloc())?;
+    dropped_separation(&rt, rt.alloc())?;
+    held_shape(&rt, rt.alloc())
 }
 
 #[test]
 fn frames_of_compounds(rt: HostRuntime) -> Result<(), Fail> {
-    align_mid(rt.alloc())?;
-    rigid_page(rt.alloc())?;
-    group(rt.alloc())?;
-    soft_page(rt.alloc())
+    align_mid(&rt, rt.alloc())?;
+    rigid_page(&rt, rt.alloc())?;
+    group(&rt, rt.alloc())?;
+    soft_page(&rt, rt.alloc())
 }
 
 #[test]
 fn frames_of_links(rt: HostRuntime) -> Result<(), Fail> {
-    linked_pair(rt.alloc())?;
-    coincident_pair(rt.alloc())
+    linked_pair(&rt, rt.alloc())?;
+    coincident_pair(&rt, rt.alloc())
 }

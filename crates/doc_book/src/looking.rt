@@ -4,6 +4,7 @@ ghost use Rattle.doc_book.specs.Calls.{IsLooked, IsPresent};
 ghost use Rattle.doc_book.specs.Legal.{IsLegal};
 
 use crate::book::Book;
+use crate::hints::Hints;
 use crate::scanning::{end_place, frame_count};
 use frame_store::Places;
 use scene_model::Scene;
@@ -11,12 +12,14 @@ use std::alloc::Global;
 use std::marker::Model;
 use units::Memory;
 
-/// A frame to make: the scene and places of a document, and the front at which they were taken. Its type keeps that a frame
-/// can be made of them: there is a place for each variable, and the separations of the scene are few enough, and feasible.
+/// A frame to make: the scene and places of a document, the front at which they were taken, and the separations that push in
+/// the last frame before, with which the layout starts. Its type keeps that a frame can be made: there is a place for each
+/// variable, and the separations of the scene are few enough, and feasible.
 pub struct Job {
     pub(crate) front: u32,
     pub(crate) scene: Scene,
     pub(crate) places: Places,
+    pub(crate) hints: Hints,
 }
 
 impl Model for Job {
@@ -24,9 +27,9 @@ impl Model for Job {
 
     ghost Value = { JobOf };
 
-    ghost view = { λ a. record { front = a.front; scene = a.scene; places = a.places } };
+    ghost view = { λ a. record { front = a.front; scene = a.scene; places = a.places; hints = a.hints } };
 
-    ghost invariant = { λ a. IsJob (record { front = a.front; scene = a.scene; places = a.places }) };
+    ghost invariant = { λ a. IsJob (record { front = a.front; scene = a.scene; places = a.places; hints = a.hints }) };
 }
 
 // Written out, so that each exit of a function that owns a job is one call.
@@ -36,9 +39,11 @@ impl Drop for Job {
             front: _,
             scene,
             places,
+            hints,
         } = self;
         drop(scene);
         drop(places);
+        drop(hints);
     }
 }
 
@@ -69,7 +74,7 @@ pub enum Look {
 impl Book {
     /// Looks whether there is a frame to make. In this order: Ending exactly after End; Spent exactly where the budget of
     /// frames stands; Idle exactly where the last entry is a frame that changed no place; else a job of the present front with
-    /// the document's scene and places, or Memory.
+    /// the document's scene and places, and the separations that push in its last frame, or Memory.
     pub fn look(&self, alloc: Global) -> Look
         ensures answer { IsLooked self.now result }
         ensures legal { IsLegal self.now.history self.now.budget }
@@ -100,10 +105,12 @@ impl Book {
     {
         let scene = self.scene().copy(alloc)?;
         let places = self.places().copy(alloc)?;
+        let hints = self.hints().copy(alloc)?;
         Ok(Job {
             front: self.front(),
             scene,
             places,
+            hints,
         })
     }
 }

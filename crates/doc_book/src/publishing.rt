@@ -3,6 +3,7 @@ ghost use Rattle.std.specs.Prelude.{◌≡◌, ◌<◌, ◌^◌, length, [], ◌
 ghost use Rattle.doc_book.specs.declared.entries.Act.TheVariants as act;
 ghost use Rattle.doc_book.specs.Frames.{IsFrameOf};
 ghost use Rattle.doc_book.specs.Growing.{entry_of};
+ghost use Rattle.doc_book.specs.Hints.{hints_of};
 ghost use Rattle.doc_book.specs.History.{end_place, scene_at, places_at};
 ghost use Rattle.doc_book.specs.Calls.{IsPublished, IsFinishing};
 ghost use Rattle.doc_book.specs.Jobs.{IsJobOf, IsSolved};
@@ -13,11 +14,13 @@ use crate::book::Book;
 use crate::editing::add;
 use crate::entries::{Act, Entry};
 use crate::framing::frame_of;
+use crate::hints::Hints;
 use crate::looking::Job;
 use crate::scanning::finishing_count;
 use frame_store::{Frame, drawn, settled};
 use std::alloc::Global;
 use std::marker::Model;
+use std::thread::Threads;
 use units::Memory;
 
 /// The most frames after End.
@@ -49,11 +52,11 @@ impl Drop for Solved {
 }
 
 impl Solved {
-    /// Makes the frame of a job. It is lent no document. Answers `Memory` for want of memory alone, and then the job is dropped.
-    pub fn of(alloc: Global, job: Job) -> Result<Solved, Memory>
+    /// Makes the frame of a job, the parts of both axes beside each other where threads can be had. It is lent no document. Answers `Memory` for want of memory alone, and then the job is dropped.
+    pub fn of<R: Threads + Sync>(rt: &R, alloc: Global, job: Job) -> Result<Solved, Memory>
         ensures { IfOk result (λ solved. solved.job ≡ job) }
     {
-        let frame = frame_of(alloc, &job.scene, &job.places)?;
+        let frame = frame_of(rt, alloc, &job.scene, &job.places, &job.hints)?;
         Ok(Solved { job, frame })
     }
 
@@ -157,7 +160,7 @@ impl Book {
 
     /// One step of finishing the document, which was ended: Settled exactly where the last entry is a frame that changed no
     /// place; Full exactly where not so and 64 frames stand after End; else a frame by caller 0 with line 0 is entered, or Memory.
-    pub fn finish(&mut self, alloc: Global) -> Finish
+    pub fn finish<R: Threads + Sync>(&mut self, rt: &R, alloc: Global) -> Finish
         requires { IsSome (end_place self.old.history) }
         ensures answer { IsFinishing self.old self.new result }
         ensures legal_before { IsLegal self.old.history self.old.budget }
@@ -166,12 +169,12 @@ impl Book {
     {
         // The front is asked for before and behind, for what the type keeps.
         let _before = self.front();
-        let answer = self.finished(alloc);
+        let answer = self.finished(rt, alloc);
         let _behind = self.front();
         answer
     }
 
-    fn finished(&mut self, alloc: Global) -> Finish
+    fn finished<R: Threads + Sync>(&mut self, rt: &R, alloc: Global) -> Finish
         requires { IsSome (end_place self.old.history) }
         ensures { IsFinishing self.old self.new result }
     {
@@ -182,7 +185,7 @@ impl Book {
         if finishing_count(self.history()) >= MOST_FINISHING {
             return Finish::Full { place: front - 1 };
         }
-        let Ok(solved) = self.solved(alloc) else {
+        let Ok(solved) = self.solved(rt, alloc) else {
             return Finish::Memory;
         };
         match self.enter_frame(alloc, 0, 0, solved) {
@@ -192,13 +195,23 @@ impl Book {
     }
 
     /// The frame of the present scene and places.
-    fn solved(&self, alloc: Global) -> Result<Solved, Memory>
+    fn solved<R: Threads + Sync>(&self, rt: &R, alloc: Global) -> Result<Solved, Memory>
         ensures { IfOk result (λ solved. IsFrameOf (scene_at self.now.history) (places_at self.now.history) solved.frame) }
     {
         let job = self.job(alloc)?;
-        let solved = Solved::of(alloc, job)?;
+        let solved = Solved::of(rt, alloc, job)?;
         let _legal = solved.frame();
         Ok(solved)
+    }
+
+    /// The separations that push in a frame of the present scene and places.
+    fn next_hints(&self, alloc: Global, frame: &Frame) -> Result<Hints, Memory>
+        requires { IsFrameOf (scene_at self.now.history) (places_at self.now.history) frame.now }
+        ensures { IfOk result (λ hints. hints ≡ hints_of frame.now) }
+    {
+        // Asked for what its type keeps, which the proof needs.
+        let _places = self.places();
+        Hints::of(alloc, frame)
     }
 
     /// All growths come first, so that want of memory changes nothing.
@@ -218,6 +231,9 @@ impl Book {
         let Ok(places) = drawn(alloc, &solved.frame) else {
             return Err(solved);
         };
+        let Ok(hints) = self.next_hints(alloc, &solved.frame) else {
+            return Err(solved);
+        };
         if self.history.reserve(1).is_err() {
             return Err(solved);
         }
@@ -233,6 +249,7 @@ impl Book {
         );
         self.places = places;
         self.settled = settled;
+        self.hints = hints;
         Ok(())
     }
 }

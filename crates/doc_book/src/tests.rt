@@ -10,6 +10,7 @@ use edit_rules::{Counted, Edit, Refusal};
 use scene_model::Form;
 use std::alloc::Global;
 use std::test::Fail;
+use std::thread::Threads;
 use units::{Axis, Name};
 
 /// A box of 10 by 10 at (x, 0).
@@ -48,10 +49,10 @@ fn told(answer: Publish) -> Laid {
 
 /// Lays the document out once.
 #[tactic(auto, using(crate::proofs::Jobs::looked_job))]
-fn lay_out(alloc: Global, book: &mut Book, who: u8, line: u32) -> Laid {
+fn lay_out<R: Threads + Sync>(rt: &R, alloc: Global, book: &mut Book, who: u8, line: u32) -> Laid {
     match book.look(alloc) {
         Look::Job(job) => {
-            let Ok(solved) = Solved::of(alloc, job) else {
+            let Ok(solved) = Solved::of(rt, alloc, job) else {
                 return Laid::Memory;
             };
             return told(book.publish(alloc, who, line, solved));
@@ -64,11 +65,11 @@ fn lay_out(alloc: Global, book: &mut Book, who: u8, line: u32) -> Laid {
 }
 
 /// A worker makes a frame, an edit comes in between, and the frame comes too late.
-fn lay_out_late(alloc: Global, book: &mut Book, between: Edit) -> Laid {
+fn lay_out_late<R: Threads + Sync>(rt: &R, alloc: Global, book: &mut Book, between: Edit) -> Laid {
     let Look::Job(job) = book.look(alloc) else {
         return Laid::Memory;
     };
-    let Ok(solved) = Solved::of(alloc, job) else {
+    let Ok(solved) = Solved::of(rt, alloc, job) else {
         return Laid::Memory;
     };
     let _entered = book.edit(alloc, 1, 3, between);
@@ -103,20 +104,23 @@ fn frames_are_entered_until_none_is_wanted(rt: HostRuntime) -> Result<(), Fail> 
     let name = Name::of(b"a").ok_or("a name")?;
     let mut book = Book::new(alloc, 2);
     assert_eq!(rt;
-        lay_out(alloc, &mut book, 1, 2),
+        lay_out(&rt, alloc, &mut book, 1, 2),
         Laid::Published { place: 0 }
     );
-    assert_eq!(rt; lay_out(alloc, &mut book, 1, 3), Laid::Idle { front: 1 });
+    assert_eq!(rt;
+        lay_out(&rt, alloc, &mut book, 1, 3),
+        Laid::Idle { front: 1 }
+    );
     assert_eq!(rt; book.edit(alloc, 1, 4, a_box(name, 3)), Ok(1));
     assert_eq!(rt;
-        lay_out(alloc, &mut book, 1, 5),
+        lay_out(&rt, alloc, &mut book, 1, 5),
         Laid::Published { place: 2 }
     );
     let spent = Laid::Spent {
         frames: 2,
         front: 3,
     };
-    assert_eq!(rt; lay_out(alloc, &mut book, 1, 6), spent);
+    assert_eq!(rt; lay_out(&rt, alloc, &mut book, 1, 6), spent);
     Ok(())
 }
 
@@ -132,7 +136,7 @@ fn edits_are_undone(rt: HostRuntime) -> Result<(), Fail> {
         Ok(1)
     );
     assert_eq!(rt;
-        lay_out(alloc, &mut book, 1, 4),
+        lay_out(&rt, alloc, &mut book, 1, 4),
         Laid::Published { place: 2 }
     );
     assert_eq!(rt; book.undo(alloc, 1, 5), Ok(3));
@@ -178,14 +182,17 @@ fn a_late_frame_is_stale(rt: HostRuntime) -> Result<(), Fail> {
     assert_eq!(rt; book.edit(alloc, 1, 2, a_box(name, 0)), Ok(0));
     let stale = Laid::Stale { front: 2, made: 1 };
     assert_eq!(rt;
-        lay_out_late(alloc, &mut book, Edit::Move { name, x: 5, y: 5 }),
+        lay_out_late(&rt, alloc, &mut book, Edit::Move { name, x: 5, y: 5 }),
         stale
     );
     assert_eq!(rt;
-        lay_out(alloc, &mut book, 11, 0),
+        lay_out(&rt, alloc, &mut book, 11, 0),
         Laid::Published { place: 2 }
     );
-    assert_eq!(rt; lay_out(alloc, &mut book, 11, 0), Laid::Idle { front: 3 });
+    assert_eq!(rt;
+        lay_out(&rt, alloc, &mut book, 11, 0),
+        Laid::Idle { front: 3 }
+    );
     Ok(())
 }
 
@@ -272,7 +279,7 @@ fn a_document_is_ended_and_finished(rt: HostRuntime) -> Result<(), Fail> {
         frames: 0,
         front: 0,
     };
-    assert_eq!(rt; lay_out(alloc, &mut book, 1, 2), spent);
+    assert_eq!(rt; lay_out(&rt, alloc, &mut book, 1, 2), spent);
     assert_eq!(rt; book.end(), Ok(0));
     let ended = Refused {
         refusal: Refusal::Ended { place: 0 },
@@ -280,10 +287,10 @@ fn a_document_is_ended_and_finished(rt: HostRuntime) -> Result<(), Fail> {
     };
     assert_eq!(rt; book.end(), Err(ended));
     let ending = Laid::Ending { place: 0, front: 1 };
-    assert_eq!(rt; lay_out(alloc, &mut book, 1, 3), ending);
+    assert_eq!(rt; lay_out(&rt, alloc, &mut book, 1, 3), ending);
     assert!(rt; is_ended(&book));
-    assert_eq!(rt; book.finish(alloc), Finish::Published { place: 1 });
+    assert_eq!(rt; book.finish(&rt, alloc), Finish::Published { place: 1 });
     assert!(rt; is_ended(&book));
-    assert_eq!(rt; book.finish(alloc), Finish::Settled { place: 1 });
+    assert_eq!(rt; book.finish(&rt, alloc), Finish::Settled { place: 1 });
     Ok(())
 }

@@ -1,13 +1,12 @@
 -- What is known of a document whose lines were played alone.
-use Rattle.std.proofs.Common.{◌≡◌, ℕ, ◌+◌, ◌≤◌, List, [], ◌∷◌, ◌++◌, Bool, true, false, cond, Option, Some, None, length, refl, ap, sym, ◌∙◌, subst, arith, ◌==◌, inl, inr}
-use Rattle.std.specs.Prelude.{◌⊎◌, MatchOption}
+use Rattle.std.proofs.Common.{◌≡◌, ℕ, ◌≤◌, List, [], ◌∷◌, Bool, true, false, cond, Option, Some, None, length, refl, ap, sym, ◌∙◌, subst, arith, ◌==◌, inl, inr}
+use Rattle.std.specs.Prelude.{MatchOption}
 use Rattle.std.specs.List.{AllByRecursion}
 use Rattle.std.proofs.lemmas.List.{length-append}
 use Rattle.script_text.specs.declared.scripts.Command.{Command}
 use Rattle.script_text.specs.declared.scripts.Command.TheVariants as command
 use Rattle.script_text.specs.declared.scripts.Line.{Line}
 use Rattle.script_text.specs.Scripts.{last_session, IsScript}
-use Rattle.edit_rules.specs.declared.edits.Edit.{Edit}
 use Rattle.doc_book.specs.declared.entries.Entry.{Entry}
 use Rattle.doc_book.specs.declared.entries.Act.{Act}
 use Rattle.doc_book.specs.declared.entries.Act.TheVariants as act
@@ -17,14 +16,14 @@ use Rattle.doc_book.specs.Events.{Event, Edits, Undoes, Asks, Looks, Publishes, 
 use Rattle.doc_book.specs.History.{is_end, is_end_act}
 use Rattle.doc_book.specs.Law.{IsEntryOf}
 use Rattle.doc_book.specs.Listing.{session_lines}
-use Rattle.doc_book.specs.Plays.{IsPlayedAs, IsPlayedLine, IsPlayed, session_replies}
+use Rattle.doc_book.specs.Plays.{IsPlayedAs, IsPlayed, session_replies}
 use Rattle.doc_book.specs.Steps.{IsStep}
-use Rattle.doc_book.specs.Replies.{AreRightReplies, OwnEntriesAre, IsFrameAct, made_places, after_of}
+use Rattle.doc_book.specs.Replies.{AreRightReplies, OwnEntriesAre, IsFrameAct, after_of}
 use Rattle.doc_book.proofs.Later.{OwnEntriesAre-places}
 use Rattle.doc_book.proofs.Playing.{plays_line, after_from, played_prefix, played_own, played_right, played_counted, played_fresh}
 use Rattle.doc_book.proofs.Stepping.{Adds, step_adds, grown}
 use Rattle.session_run.specs.Alone.{IsOfSession, IsPlayedAlone}
-use Rattle.session_run.specs.Sessions.{ForSessions, AreBySession}
+use Rattle.session_run.specs.Sessions.{ForSessions}
 use Rattle.session_run.proofs.Elements.{all-push}
 use Rattle.session_run.proofs.Lists.{ForSessions-then}
 use Rattle.session_run.proofs.Playing.{played_length, of_sessions}

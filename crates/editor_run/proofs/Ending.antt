@@ -1,5 +1,5 @@
 -- A run that ends before anything was read or written.
-use Rattle.std.proofs.Common.{◌≡◌, Option, None, Some, [], refl, sym, ◌∙◌, subst, inl, inr, arith}
+use Rattle.std.proofs.Common.{◌≡◌, None, Some, [], refl, sym, ◌∙◌, subst, inl, inr, arith}
 use Rattle.std.specs.Prelude.{◌⊎◌}
 use Rattle.std.proofs.KnownBytes.{prepend_known-nil}
 use Rattle.script_text.specs.declared.faults.ScriptFault.{ScriptFault}

@@ -30,7 +30,7 @@ pub fn play_beside<R: AllocGlobal + Threads + Wait + Sync, G: Gate + Sync>(
         replies,
         tallies,
     } = beside;
-    finish_all(rt.alloc(), &mut book)?;
+    finish_all(rt, rt.alloc(), &mut book)?;
     // The history is asked for what its type keeps, which the proof needs.
     let _legal = book.history();
     Ok(Played {

@@ -7,15 +7,16 @@ ghost use Rattle.editor_run.specs.Finishing.{GrowsOnce, IsDone, GrowsByFinishing
 
 use doc_book::{Book, Finish};
 use std::alloc::Global;
+use std::thread::Threads;
 use units::Memory;
 
 /// One step: whether a frame was entered.
-fn finish_once(alloc: Global, book: &mut Book) -> Result<bool, Memory>
+fn finish_once<R: Threads + Sync>(rt: &R, alloc: Global, book: &mut Book) -> Result<bool, Memory>
     requires ended { IsSome (end_place book.old.history) }
     ensures more { result ≡ Ok true → GrowsOnce book.old book.new }
     ensures done { result ≡ Ok false → IsDone book.old book.new }
 {
-    match book.finish(alloc) {
+    match book.finish(rt, alloc) {
         Finish::Published { .. } => Ok(true),
         Finish::Settled { .. } | Finish::Full { .. } => Ok(false),
         Finish::Memory => Err(Memory),
@@ -24,12 +25,12 @@ fn finish_once(alloc: Global, book: &mut Book) -> Result<bool, Memory>
 
 /// Frames by caller 0, until the last changed no place or 64 stand after End. The document was ended by its last
 /// entry.
-pub fn finish_all(alloc: Global, book: &mut Book) -> Result<(), Memory>
+pub fn finish_all<R: Threads + Sync>(rt: &R, alloc: Global, book: &mut Book) -> Result<(), Memory>
     requires ended { IsSome (end_place book.old.history) }
     requires last { after_end book.old.history ≡ [] }
     ensures finished { OnOk result (IsFinished book.new.history) }
     ensures grown { OnOk result (GrowsByFinishing book.old book.new) }
 {
-    while finish_once(alloc, book)? {}
+    while finish_once(rt, alloc, book)? {}
     Ok(())
 }

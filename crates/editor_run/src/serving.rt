@@ -23,7 +23,7 @@ use std::thread::Threads;
 /// Statuses: 0 on success; 3 where the bytes spell no script, with the line and the kind of their fault; 4 where a read
 /// failed; 5 for want of memory; 6 where a write failed, with a front part of the output written; 7 where the source
 /// gave more than 1,048,576 bytes. On 3, 4 and 7 nothing is written, on 5 nothing or a front part of the output.
-pub fn run_alone<R: AllocGlobal, S: Source, K: Sink>(
+pub fn run_alone<R: AllocGlobal + Threads + Sync, S: Source, K: Sink>(
     rt: &R,
     plan: Plan,
     source: &mut S,
@@ -49,7 +49,7 @@ pub fn run_alone<R: AllocGlobal, S: Source, K: Sink>(
         Ok(script) => script,
         Err(fault) => return failed(alloc, fault),
     };
-    let played = match play_whole(alloc, plan.frames, &script) {
+    let played = match play_whole(rt, alloc, plan.frames, &script) {
         Ok(played) => played,
         Err(_) => return failed(alloc, Fault::Memory),
     };

@@ -12,6 +12,7 @@ use layout_worker::Tally;
 use script_text::Script;
 use session_run::play_alone;
 use std::alloc::Global;
+use std::thread::Threads;
 use units::{Memory, Sequence};
 
 /// A document that was played to its end, with the replies by session and the tallies of the workers.
@@ -23,16 +24,21 @@ pub struct Played {
 }
 
 /// Plays the lines of a script in file order, ends the document and finishes it.
-pub fn play_whole(alloc: Global, frames: u32, script: &Script) -> Result<Played, Memory>
+pub fn play_whole<R: Threads + Sync>(
+    rt: &R,
+    alloc: Global,
+    frames: u32,
+    script: &Script,
+) -> Result<Played, Memory>
     requires { frames ≤ most_frames }
     ensures { IfOk result (λ p. IsPlayedToEnd frames 0 script.now p.book p.replies p.tallies) }
 {
     // The lines, and the history below, are asked for what their types keep, which the proof needs.
     let _lines = script.lines();
     let mut book = Book::new(alloc, frames);
-    let lists = play_alone(alloc, &mut book, script)?;
+    let lists = play_alone(rt, alloc, &mut book, script)?;
     end(&mut book)?;
-    finish_all(alloc, &mut book)?;
+    finish_all(rt, alloc, &mut book)?;
     let _legal = book.history();
     Ok(Played {
         book,

@@ -1,5 +1,5 @@
 -- Rounds of a worker.
-use Rattle.std.proofs.Common.{◌≡◌, ℕ, ◌+◌, ◌<◌, ◌≤◌, ◌^◌, List, [], ◌∷◌, ◌++◌, Some, None, length, take, refl, ap, sym, ◌∙◌, subst, arith, append_assoc}
+use Rattle.std.proofs.Common.{◌≡◌, ℕ, ◌≤◌, List, [], ◌∷◌, ◌++◌, None, length, take, refl, ap, sym, ◌∙◌, subst, arith, append_assoc}
 use Rattle.std.specs.List.{AllByRecursion}
 use Rattle.std.proofs.lemmas.List.{append-nil, length-append}
 use Rattle.std.proofs.lemmas.Option.{slice_get_within}
@@ -7,26 +7,22 @@ use mathlib.Core.List.{IsPrefix}
 use Rattle.doc_book.specs.declared.entries.Entry.{Entry}
 use Rattle.doc_book.specs.declared.entries.Act.TheVariants as act
 use Rattle.doc_book.specs.declared.looking.Look.{Look}
-use Rattle.doc_book.specs.declared.publishing.Publish.{Publish}
 use Rattle.doc_book.specs.declared.publishing.Publish.TheVariants as publish
 use Rattle.doc_book.specs.declared.replies.Reply.TheVariants as reply
-use Rattle.doc_book.specs.declared.told.Told.{Told}
 use Rattle.doc_book.specs.Calls.{IsLooked, IsPublished}
-use Rattle.doc_book.specs.Desks.{Standing, IsSameDesk, Called}
+use Rattle.doc_book.specs.Desks.{Standing, Called}
 use Rattle.doc_book.specs.Document.{Document}
-use Rattle.doc_book.specs.Events.{Publishes, Replied, Memory}
+use Rattle.doc_book.specs.Events.{Replied}
 use Rattle.doc_book.specs.Growing.{Grows, entry_of}
 use Rattle.doc_book.specs.History.{end_place}
 use Rattle.doc_book.specs.Jobs.{SolvedOf}
 use Rattle.doc_book.specs.Replies.{IsEntryAt, IsFrameAct}
 use Rattle.doc_book.specs.Steps.{IsPublishStep}
-use Rattle.doc_book.specs.Turns.{counted, told_publish}
+use Rattle.doc_book.specs.Turns.{counted}
 use Rattle.doc_book.proofs.Later.{slice_get-append, front-same}
-use Rattle.doc_book.proofs.Running.{adds_prefix, IsPrefix-trans}
-use Rattle.doc_book.proofs.Stepping.{step_adds, grown, before_entered, publish_right}
-use Rattle.layout_worker.specs.Working.{IsWorkFrame, IsWorked, IsLast, Tells, IsRound}
-use Rattle.layout_worker.specs.declared.tallies.Last.{Last}
-use Rattle.layout_worker.specs.declared.tallies.Last.TheVariants as last
+use Rattle.doc_book.proofs.Running.{IsPrefix-trans}
+use Rattle.doc_book.proofs.Stepping.{grown, before_entered, publish_right}
+use Rattle.layout_worker.specs.Working.{IsWorkFrame, IsWorked, Tells, IsRound}
 use Rattle.layout_worker.specs.declared.working.Round.{Round}
 use Rattle.layout_worker.specs.declared.working.Round.TheVariants as round
 

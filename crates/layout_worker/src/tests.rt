@@ -12,6 +12,7 @@ use std::alloc::Global;
 use std::sync::Wait;
 use std::sync::atomic::{AtomicU64, Ordering};
 use std::test::Fail;
+use std::thread::Threads;
 use units::Name;
 
 /// A gate that counts looks and frames.
@@ -90,7 +91,12 @@ fn linked_pair(alloc: Global, frames: u32) -> Result<Book, Fail>
 }
 
 /// What worker 11 comes to, alone at a document.
-fn worked<R: Wait, G: Gate>(rt: &R, alloc: Global, book: &mut Book, gate: &G) -> Tally {
+fn worked<R: Threads + Wait + Sync, G: Gate>(
+    rt: &R,
+    alloc: Global,
+    book: &mut Book,
+    gate: &G,
+) -> Tally {
     let bell = Bell::new();
     let mut desk = Alone {
         book,

@@ -9,6 +9,7 @@ use doc_book::{Desk, Job, Look, Publish, Solved};
 use gate_bell::{AFTER_SOLVING, BEFORE_LOOK, Bell, Gate};
 use std::alloc::Global;
 use std::sync::Wait;
+use std::thread::Threads;
 
 /// What one round came to.
 pub(crate) enum Round {
@@ -27,7 +28,7 @@ pub(crate) enum Round {
 /// Where there is nothing to lay out it rests until the bell has rung once more than it has heard; the rings before its
 /// first rest count from 0, so that none is lost. It arrives at the gate before each look, and when a frame is made.
 /// The tally's counts are those of this work.
-pub fn work<D: Desk, G: Gate, R: Wait>(
+pub fn work<D: Desk, G: Gate, R: Threads + Wait + Sync>(
     rt: &R,
     alloc: Global,
     desk: &mut D,
@@ -47,7 +48,7 @@ pub fn work<D: Desk, G: Gate, R: Wait>(
     let mut idle = 0;
     let mut heard = 0;
     for _ in rt.forever() {
-        match one_round(alloc, desk, gate, who) {
+        match one_round(rt, alloc, desk, gate, who) {
             Round::Published => published += 1,
             Round::Stale => stale = u64::saturating_add(stale, 1),
             Round::Idle => {
@@ -68,14 +69,20 @@ pub fn work<D: Desk, G: Gate, R: Wait>(
 }
 
 /// Looks, and where there is a frame to make, makes and publishes it.
-fn one_round<D: Desk, G: Gate>(alloc: Global, desk: &mut D, gate: &G, who: u8) -> Round
+fn one_round<R: Threads + Sync, D: Desk, G: Gate>(
+    rt: &R,
+    alloc: Global,
+    desk: &mut D,
+    gate: &G,
+    who: u8,
+) -> Round
     requires { (D.at desk.old).told.job ≡ None }
     ensures round { IsRound (D.at desk.old) (D.at desk.new) result }
     ensures key { D.key desk.new ≡ D.key desk.old }
 {
     gate.arrive(BEFORE_LOOK, who);
     match desk.look(alloc) {
-        Look::Job(job) => solve(alloc, desk, gate, who, job),
+        Look::Job(job) => solve(rt, alloc, desk, gate, who, job),
         Look::Idle { .. } => Round::Idle,
         Look::Spent { .. } => Round::Last(Last::Spent),
         Look::Ending { .. } => Round::Last(Last::Ending),
@@ -84,13 +91,20 @@ fn one_round<D: Desk, G: Gate>(alloc: Global, desk: &mut D, gate: &G, who: u8) -
 }
 
 /// Makes the frame of the job that is out, and publishes it. The desk isn't called between the look and the publication.
-fn solve<D: Desk, G: Gate>(alloc: Global, desk: &mut D, gate: &G, who: u8, job: Job) -> Round
+fn solve<R: Threads + Sync, D: Desk, G: Gate>(
+    rt: &R,
+    alloc: Global,
+    desk: &mut D,
+    gate: &G,
+    who: u8,
+    job: Job,
+) -> Round
     requires told { (D.at desk.old).told.job ≡ Some job.front }
     requires job { IsJobOf (D.at desk.old).seen (D.at desk.old).budget job.front job.scene job.places }
     ensures round { IsRound (D.at desk.old) (D.at desk.new) result }
     ensures key { D.key desk.new ≡ D.key desk.old }
 {
-    let Ok(solved) = Solved::of(alloc, job) else {
+    let Ok(solved) = Solved::of(rt, alloc, job) else {
         return Round::Last(Last::Memory);
     };
     gate.arrive(AFTER_SOLVING, who);

@@ -8,10 +8,16 @@ use doc_book::{Answer, Book, Refused, Reply};
 use edit_rules::Refusal;
 use script_text::{Command, Line};
 use std::alloc::Global;
+use std::thread::Threads;
 use units::Memory;
 
 /// Plays one line for its session, and gives its reply. For want of memory the document is as before.
-pub fn answer(alloc: Global, book: &mut Book, line: &Line) -> Result<Reply, Memory>
+pub fn answer<R: Threads + Sync>(
+    rt: &R,
+    alloc: Global,
+    book: &mut Book,
+    line: &Line,
+) -> Result<Reply, Memory>
     ensures { MatchResult result (λ reply. IsPlayedLine book.old book.new line.now reply) (λ _. book.new ≡ book.old) }
 {
     match &line.command {
@@ -20,7 +26,7 @@ pub fn answer(alloc: Global, book: &mut Book, line: &Line) -> Result<Reply, Memo
             entered(book.edit(alloc, line.session, line.number, edit))
         }
         Command::Undo => entered(book.undo(alloc, line.session, line.number)),
-        Command::Layout => lay_out(alloc, book, line),
+        Command::Layout => lay_out(rt, alloc, book, line),
         Command::Where(name) => Ok(told(book.ask(name))),
     }
 }

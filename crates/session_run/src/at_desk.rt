@@ -12,6 +12,7 @@ use edit_rules::{Edit, Refusal};
 use gate_bell::{AFTER_REPLY, Gate};
 use script_text::{Command, Line};
 use std::alloc::Global;
+use std::thread::Threads;
 use units::{Memory, Name, Sequence};
 
 /// Plays those of the lines that are of session `who` at its desk, in order, and gives a reply for each; the lines of other
@@ -19,7 +20,8 @@ use units::{Memory, Name, Sequence};
 /// frame to make, its making, for which the desk isn't called, and one publication. It waits only as the desk and the gate
 /// do: at the gate after each reply to an edit or undo. For want of memory the lines so far have been played, and the one
 /// at which it came may have been.
-pub fn play<D: Desk, G: Gate>(
+pub fn play<R: Threads + Sync, D: Desk, G: Gate>(
+    rt: &R,
     alloc: Global,
     desk: &mut D,
     gate: &G,
@@ -35,7 +37,7 @@ pub fn play<D: Desk, G: Gate>(
     let mut replies = Sequence::new(alloc);
     for line in lines {
         if line.session == who {
-            let reply = reply_to(alloc, desk, gate, line)?;
+            let reply = reply_to(rt, alloc, desk, gate, line)?;
             replies.push(reply)?;
         }
     }
@@ -43,7 +45,8 @@ pub fn play<D: Desk, G: Gate>(
 }
 
 /// Plays a line of the desk's caller.
-fn reply_to<D: Desk, G: Gate>(
+fn reply_to<R: Threads + Sync, D: Desk, G: Gate>(
+    rt: &R,
     alloc: Global,
     desk: &mut D,
     gate: &G,
@@ -66,7 +69,7 @@ fn reply_to<D: Desk, G: Gate>(
             gate.arrive(AFTER_REPLY, line.session);
             Ok(reply)
         }
-        Command::Layout => lay_out_for(alloc, desk, line),
+        Command::Layout => lay_out_for(rt, alloc, desk, line),
         Command::Where(name) => Ok(ask_for(desk, line, name)),
     }
 }
@@ -105,7 +108,12 @@ fn ask_for<D: Desk>(desk: &mut D, line: &Line, name: &Name) -> Reply
 }
 
 /// Looks for a line, and where there is a frame to make, makes and publishes it.
-fn lay_out_for<D: Desk>(alloc: Global, desk: &mut D, line: &Line) -> Result<Reply, Memory>
+fn lay_out_for<R: Threads + Sync, D: Desk>(
+    rt: &R,
+    alloc: Global,
+    desk: &mut D,
+    line: &Line,
+) -> Result<Reply, Memory>
     requires line { line.now.command ≡ command.Layout }
     requires told { (D.at desk.old).told.job ≡ None }
     ensures replied { IfOk result (λ reply. IsRepliedAt (D.at desk.old) (D.at desk.new) line.now reply) }
@@ -113,7 +121,7 @@ fn lay_out_for<D: Desk>(alloc: Global, desk: &mut D, line: &Line) -> Result<Repl
     ensures key { D.key desk.new ≡ D.key desk.old }
 {
     match desk.look(alloc) {
-        Look::Job(job) => publish_for(alloc, desk, line, job),
+        Look::Job(job) => publish_for(rt, alloc, desk, line, job),
         Look::Idle { front } => Ok(Reply::Idle { front }),
         Look::Spent { front, .. } => Ok(Reply::Spent { front }),
         Look::Ending { place, front } => Ok(Reply::Refused(Refused {
@@ -125,7 +133,13 @@ fn lay_out_for<D: Desk>(alloc: Global, desk: &mut D, line: &Line) -> Result<Repl
 }
 
 /// Makes the frame of the job that is out, and publishes it for a line. The desk isn't called while it is made.
-fn publish_for<D: Desk>(alloc: Global, desk: &mut D, line: &Line, job: Job) -> Result<Reply, Memory>
+fn publish_for<R: Threads + Sync, D: Desk>(
+    rt: &R,
+    alloc: Global,
+    desk: &mut D,
+    line: &Line,
+    job: Job,
+) -> Result<Reply, Memory>
     requires line { line.now.command ≡ command.Layout }
     requires told { (D.at desk.old).told.job ≡ Some job.front }
     requires job { IsJobOf (D.at desk.old).seen (D.at desk.old).budget job.front job.scene job.places }
@@ -134,7 +148,7 @@ fn publish_for<D: Desk>(alloc: Global, desk: &mut D, line: &Line, job: Job) -> R
     ensures kept { IsKeptAt (D.at desk.old) (D.at desk.new) }
     ensures key { D.key desk.new ≡ D.key desk.old }
 {
-    let solved = Solved::of(alloc, job)?;
+    let solved = Solved::of(rt, alloc, job)?;
     match desk.publish(alloc, line.number, solved) {
         Publish::Published { place } => Ok(Reply::Published { place }),
         Publish::Stale { front, .. } => Ok(Reply::Stale { front }),

@@ -9,6 +9,7 @@ use script_text::read;
 use std::alloc::Global;
 use std::sync::atomic::{AtomicU64, Ordering};
 use std::test::Fail;
+use std::thread::Threads;
 use units::{Name, Sequence};
 
 const LINES: &[u8] = b"dunnart 1
@@ -50,7 +51,12 @@ impl Gate for CountingGate {
 }
 
 /// The replies to the lines of session 1, which has a desk alone.
-fn played<G: Gate>(alloc: Global, gate: &G, bytes: &[u8]) -> Result<Sequence<Reply>, Fail> {
+fn played<R: Threads + Sync, G: Gate>(
+    rt: &R,
+    alloc: Global,
+    gate: &G,
+    bytes: &[u8],
+) -> Result<Sequence<Reply>, Fail> {
     let script = read(alloc, bytes).ok().ok_or("a script")?;
     let mut book = Book::new(alloc, 64);
     let mut desk = Alone {
@@ -59,17 +65,25 @@ fn played<G: Gate>(alloc: Global, gate: &G, bytes: &[u8]) -> Result<Sequence<Rep
         told: Told::new(),
     };
     Ok(
-        play(alloc, &mut desk, gate, 1, script.lines())
+        play(rt, alloc, &mut desk, gate, 1, script.lines())
             .ok()
             .ok_or("memory")?,
     )
 }
 
 /// The lists of replies to a script in file order.
-fn in_file_order(alloc: Global, bytes: &[u8]) -> Result<Vec<Sequence<Reply>>, Fail> {
+fn in_file_order<R: Threads + Sync>(
+    rt: &R,
+    alloc: Global,
+    bytes: &[u8],
+) -> Result<Vec<Sequence<Reply>>, Fail> {
     let script = read(alloc, bytes).ok().ok_or("a script")?;
     let mut book = Book::new(alloc, 64);
-    Ok(play_alone(alloc, &mut book, &script).ok().ok_or("memory")?)
+    Ok(
+        play_alone(rt, alloc, &mut book, &script)
+            .ok()
+            .ok_or("memory")?,
+    )
 }
 
 /// The replies to the lines of session 1.
@@ -102,10 +116,10 @@ fn a_session_has_its_replies(rt: HostRuntime) -> Result<(), Fail> {
         passed: AtomicU64::new(0),
     };
     let expected = expected()?;
-    let replies = played(alloc, &gate, LINES)?;
+    let replies = played(&rt, alloc, &gate, LINES)?;
     assert_eq!(rt; replies.as_slice(), expected.as_slice());
     assert_eq!(rt; gate.passed.load(Ordering::SeqCst), 3);
-    let lists = in_file_order(alloc, LINES)?;
+    let lists = in_file_order(&rt, alloc, LINES)?;
     assert_eq!(rt;
         lists.first().map(Sequence::as_slice),
         Some(expected.as_slice())
@@ -119,7 +133,7 @@ fn lines_of_others_are_passed_over(rt: HostRuntime) -> Result<(), Fail> {
     let gate = CountingGate {
         passed: AtomicU64::new(0),
     };
-    let replies = played(alloc, &gate, LINES_OF_TWO)?;
+    let replies = played(&rt, alloc, &gate, LINES_OF_TWO)?;
     assert_eq!(rt; replies.as_slice(), expected()?.as_slice());
     assert_eq!(rt; gate.passed.load(Ordering::SeqCst), 3);
     Ok(())

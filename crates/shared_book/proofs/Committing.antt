@@ -1,5 +1,5 @@
 -- A frame that was made outside the lock is legal where it was committed.
-use Rattle.std.proofs.Common.{◌≡◌, ℕ, List, [], ◌∷◌, ◌++◌, length, take, refl, ap, sym, ◌∙◌, subst, arith, Option, Some, None, slice_get}
+use Rattle.std.proofs.Common.{◌≡◌, ℕ, List, [], ◌∷◌, ◌++◌, take, ap, sym, ◌∙◌, subst, arith, Option, Some, None, slice_get}
 use Rattle.std.proofs.lemmas.List.{take_all, take-append-le}
 use Rattle.frame_store.specs.declared.frames.Frame.{Frame}
 use Rattle.doc_book.specs.declared.entries.Act.{Act}

@@ -1,5 +1,5 @@
 -- What holds of the seats of passes holds of the passes.
-use Rattle.std.proofs.Common.{◌≡◌, ◌≢◌, ℕ, ◌<◌, List, length, map, slice_index_or, All, refl, ap, sym, ◌∙◌, subst, Some, true}
+use Rattle.std.proofs.Common.{◌≡◌, ℕ, ◌<◌, List, length, map, slice_index_or, All, refl, ap, sym, ◌∙◌, subst, Some, true}
 use Rattle.std.proofs.Math.ListN.{get_or-map}
 use Rattle.std.proofs.lemmas.List.{length-map}
 use Rattle.std.proofs.lemmas.List.Elements.{All-map}

@@ -1,5 +1,5 @@
 -- One turn at a shared book, from the answer of its book.
-use Rattle.std.proofs.Common.{◌≡◌, ℕ, ◌<◌, ◌^◌, List, [], ◌∷◌, ◌++◌, Bool, true, false, length, refl, ap, sym, ◌∙◌, subst, inl, inr, Result, Ok, Err}
+use Rattle.std.proofs.Common.{◌≡◌, ℕ, ◌<◌, ◌^◌, List, [], ◌∷◌, ◌++◌, true, false, length, refl, ap, sym, ◌∙◌, subst, inl, inr, Result, Ok, Err}
 use mathlib.Core.List.{IsPrefix}
 use Rattle.scene_model.specs.Diagram.{Diagram}
 use Rattle.frame_store.specs.declared.places.Places.{Places}

@@ -4,9 +4,8 @@ use Rattle.std.specs.Prelude.{◌<◌, ◌≤◌, length, All, map}
 use Rattle.turn_table.specs.Counting.{occurrences, OnlyOne}
 use Rattle.turn_table.specs.States.{Opened, Seated}
 use Rattle.doc_book.specs.declared.desks.Terms.{Terms}
-use Rattle.doc_book.specs.declared.entries.Act.{Act}
-use Rattle.doc_book.specs.declared.entries.Act.TheVariants as act
 use Rattle.doc_book.specs.declared.entries.Entry.{Entry}
+use Rattle.doc_book.specs.History.{is_end}
 
 -- The shared book that the pass is of, the number of its seat there, the caller's number, the entries that were seen, and
 -- the places of the caller's own ones.
@@ -17,17 +16,10 @@ pub record Held : Type 0 where
   pub seen : List Entry
   pub own : List ℕ
 
--- the act is End
-abbrev pub is_end : Act → Bool
-is_end (act.Edit e) = false
-is_end act.Undo = false
-is_end (act.Frame f) = false
-is_end act.End = true
-
 -- there is an entry, and it is by this caller, or is End by caller 0
 abbrev pub is_by : ℕ → Option Entry → Bool
 is_by who None = false
-is_by who (Some e) = if e.who == who then true else (if e.who == 0 then is_end e.act else false)
+is_by who (Some e) = if e.who == who then true else (if e.who == 0 then is_end e else false)
 
 -- each of these places holds such an entry
 abbrev pub all_by : ℕ → List Entry → List ℕ → Bool

@@ -34,7 +34,7 @@ fn opened(alloc: Global, frames: u32, whos: &[u8]) -> Result<(SharedBook, Vec<Pa
 }
 
 /// Two callers, by turns in one thread: a frame comes too late, and the next one doesn't.
-fn play_by_hand<R: Wait + Abort>(
+fn play_by_hand<R: Threads + Wait + Abort + Sync>(
     rt: &R,
     alloc: Global,
     book: &SharedBook,
@@ -76,7 +76,7 @@ fn closed(alloc: Global, book: SharedBook, one: Pass, eleven: Pass) -> Result<Bo
     Ok(book.close(passes))
 }
 
-fn shared_by_hand<R: Wait + Abort>(rt: &R, alloc: Global) -> Result<Book, Fail> {
+fn shared_by_hand<R: Threads + Wait + Abort + Sync>(rt: &R, alloc: Global) -> Result<Book, Fail> {
     let (book, mut passes) = opened(alloc, 64, &[1, 11])?;
     let mut eleven = passes.pop().unwrap();
     let mut one = passes.pop().unwrap();

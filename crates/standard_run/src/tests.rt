@@ -4,6 +4,7 @@ mod faults;
 mod hostile;
 mod judging;
 mod layouts;
+mod orders;
 mod rows;
 mod scenes;
 mod separations;
@@ -226,7 +227,7 @@ fn made_scripts(rt: HostRuntime) -> Result<(), Fail> {
 }
 
 /// The status of a run without frames before End.
-fn status_without_frames<R: AllocGlobal>(
+fn status_without_frames<R: AllocGlobal + Threads + Sync>(
     rt: &R,
     source: &mut SureSource,
     sink: &mut SureSink,
@@ -301,7 +302,7 @@ fn faulty_scripts(rt: HostRuntime) -> Result<(), Fail> {
     fails(&rt, vec![in alloc; b'a'; 1_048_577]?, "7 input too long")
 }
 
-/// Plays the script of the first box over a source and a sink whose listed calls fail, with these words behind the
+/// Plays the script of two boxes apart over a source and a sink whose listed calls fail, with these words behind the
 /// program's name; nothing is written.
 fn stops<R: AllocGlobal + Threads + Wait + Sync>(
     rt: &R,
@@ -311,7 +312,7 @@ fn stops<R: AllocGlobal + Threads + Wait + Sync>(
     text: &str,
 ) -> Result<(), Fail> {
     let alloc = rt.alloc();
-    let mut source = MemSource::new(FIRST_BOX.to_vec(alloc)?, source_fails.to_vec(alloc)?);
+    let mut source = MemSource::new(TWO_APART.to_vec(alloc)?, source_fails.to_vec(alloc)?);
     let mut sink = MemSink::new(sink_fails.to_vec(alloc)?);
     let end = end_of(rt, owned(alloc, words)?, &mut source, &mut sink);
     if said(alloc, end)?.as_str() != text {

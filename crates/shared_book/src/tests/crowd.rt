@@ -46,7 +46,7 @@ fn set_apart(names: &Names) -> Edit {
 
 /// One call, by its number: a box is put and set apart, asked for, laid out, and the last edit is undone. Each answer
 /// is noted.
-fn call<R: Wait>(
+fn call<R: Threads + Wait + Sync>(
     rt: &R,
     alloc: Global,
     book: &SharedBook,
@@ -68,7 +68,7 @@ fn call<R: Wait>(
 }
 
 /// A frame is made outside the lock, and published where it isn't stale.
-fn lay_out<R: Wait>(
+fn lay_out<R: Threads + Wait + Sync>(
     rt: &R,
     alloc: Global,
     book: &SharedBook,
@@ -90,7 +90,7 @@ fn lay_out<R: Wait>(
     }
 }
 
-fn call_often<R: Wait>(
+fn call_often<R: Threads + Wait + Sync>(
     rt: &R,
     alloc: Global,
     book: &SharedBook,
@@ -107,7 +107,7 @@ fn call_often<R: Wait>(
 }
 
 /// The calls of the caller at this place of the passes.
-fn call_as<R: Wait>(
+fn call_as<R: Threads + Wait + Sync>(
     rt: &R,
     alloc: Global,
     book: &SharedBook,

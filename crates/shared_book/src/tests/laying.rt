@@ -8,6 +8,7 @@ use edit_rules::Edit;
 use scene_model::Form;
 use std::alloc::Global;
 use std::sync::Wait;
+use std::thread::Threads;
 use units::Name;
 
 /// A box of 10 by 10 at (x, 0).
@@ -43,7 +44,7 @@ pub fn told(answer: Publish) -> Laid {
 
 /// The frame of a job, where a look gives one.
 #[tactic(auto, using(crate::proofs::Looking::turn_job))]
-pub fn look_and_solve<R: Wait>(
+pub fn look_and_solve<R: Threads + Wait + Sync>(
     rt: &R,
     alloc: Global,
     book: &SharedBook,
@@ -56,7 +57,7 @@ pub fn look_and_solve<R: Wait>(
     let Look::Job(job) = book.look(rt, alloc, pass) else {
         return None;
     };
-    let Ok(solved) = Solved::of(alloc, job) else {
+    let Ok(solved) = Solved::of(rt, alloc, job) else {
         return None;
     };
     Some(solved)

@@ -5,7 +5,11 @@ use super::*;
 use byte_edge::{SlowSink, SlowSource};
 
 /// The status of a run alone.
-fn status_alone<R: AllocGlobal, S: Source, K: Sink>(rt: &R, source: &mut S, sink: &mut K) -> u8 {
+fn status_alone<R: AllocGlobal + Threads + Sync, S: Source, K: Sink>(
+    rt: &R,
+    source: &mut S,
+    sink: &mut K,
+) -> u8 {
     let plan = Plan {
         workers: 0,
         frames: 64,
@@ -16,7 +20,7 @@ fn status_alone<R: AllocGlobal, S: Source, K: Sink>(rt: &R, source: &mut S, sink
 }
 
 /// A sink with the whole output of the flow chart.
-fn whole_output<R: AllocGlobal>(rt: &R) -> Result<SureSink, Fail> {
+fn whole_output<R: AllocGlobal + Threads + Sync>(rt: &R) -> Result<SureSink, Fail> {
     let alloc = rt.alloc();
     let mut source = SureSource::new(FLOW_CHART.to_vec(alloc)?);
     let mut sink = SureSink::new(alloc);
@@ -27,7 +31,11 @@ fn whole_output<R: AllocGlobal>(rt: &R) -> Result<SureSink, Fail> {
 }
 
 /// Whether the run goes through whose read of this number fails. If not, it ends with status 4 and nothing is written.
-fn passes_reading<R: AllocGlobal>(rt: &R, call: u32, whole: &[u8]) -> Result<bool, Fail> {
+fn passes_reading<R: AllocGlobal + Threads + Sync>(
+    rt: &R,
+    call: u32,
+    whole: &[u8],
+) -> Result<bool, Fail> {
     let alloc = rt.alloc();
     let mut source = MemSource::new(FLOW_CHART.to_vec(alloc)?, [call].to_vec(alloc)?);
     let mut sink = SureSink::new(alloc);
@@ -43,7 +51,11 @@ fn passes_reading<R: AllocGlobal>(rt: &R, call: u32, whole: &[u8]) -> Result<boo
 
 /// Whether the run goes through whose write of this number fails. If not, it ends with status 6, and a part of the output
 /// is written, from the front.
-fn passes_writing<R: AllocGlobal>(rt: &R, call: u32, whole: &[u8]) -> Result<bool, Fail> {
+fn passes_writing<R: AllocGlobal + Threads + Sync>(
+    rt: &R,
+    call: u32,
+    whole: &[u8],
+) -> Result<bool, Fail> {
     let alloc = rt.alloc();
     let mut source = SureSource::new(FLOW_CHART.to_vec(alloc)?);
     let mut sink = MemSink::new([call].to_vec(alloc)?);
@@ -83,7 +95,11 @@ fn each_write_fails(rt: HostRuntime) -> Result<(), Fail> {
 }
 
 /// The run whose reads and writes move at most `step` bytes each writes the same.
-fn same_in_steps<R: AllocGlobal>(rt: &R, step: u32, whole: &[u8]) -> Result<(), Fail>
+fn same_in_steps<R: AllocGlobal + Threads + Sync>(
+    rt: &R,
+    step: u32,
+    whole: &[u8],
+) -> Result<(), Fail>
     requires { 1 ≤ step }
 {
     let alloc = rt.alloc();

@@ -1,6 +1,4 @@
-use Rattle.std.proofs.Common.{arith, ◌≡◌, ◌+◌, ◌≤◌, length, List}
-use Rattle.concurrent_run.specs.declared.elements.Session.{Session}
-use Rattle.concurrent_run.specs.declared.elements.Worker.{Worker}
+use Rattle.std.proofs.Common.{arith}
 use Rattle.concurrent_run.proofs.Together.{session_count, tables, all_come, run_whole}
 use Rattle.concurrent_run.proofs.beside.run_open.Goals as goal
 

@@ -1,8 +1,8 @@
 use Rattle.units.specs.declared.geometry.Axis.TheVariants.{X, Y}
 use Rattle.doc_book.proofs.framing.frame_of.Goals as goal
 
-pub project-requires-clause-feasible : goal.project-requires-clause-feasible
-project-requires-clause-feasible c = c.requires.feasible X
+pub project_both-requires-clause-feasible_x : goal.project_both-requires-clause-feasible_x
+project_both-requires-clause-feasible_x g c κs within = c.requires.feasible X
 
-pub project-requires-2-clause-feasible : goal.project-requires-2-clause-feasible
-project-requires-2-clause-feasible c = c.requires.feasible Y
+pub project_both-requires-clause-feasible_y : goal.project_both-requires-clause-feasible_y
+project_both-requires-clause-feasible_y g c κs within = c.requires.feasible Y

@@ -5,7 +5,7 @@ use Rattle.doc_book.proofs.Jobs.{looked_job, entered_job}
 use Rattle.doc_book.proofs.tests.lay_out_late.Goals as goal
 
 pub publish-requires : goal.publish-requires
-publish-requires c =
+publish-requires g c =
     let job = c.in-Job.job in
     let new = c.edit-entered.new.self in
     let looked = looked_job c.args.book.now job c.in-Job.ensures.answer in

@@ -5,7 +5,7 @@ use Rattle.editor_run.proofs.Settling.{FinishesFrom}
 use Rattle.editor_run.proofs.finishing.finish_all.Given as goal
 
 abbrev pub invariant-loop : goal.invariant-loop
-invariant-loop l = FinishesFrom l.initial.book l.book
+invariant-loop g l = FinishesFrom l.initial.book l.book
 
 abbrev pub decreases-loop : goal.decreases-loop
-decreases-loop l = most_finishing - length (after_end l.book.history)
+decreases-loop g l = most_finishing - length (after_end l.book.history)

@@ -5,25 +5,25 @@ use Rattle.editor_run.proofs.Together.{not_ended_by, ended_place, ended_last, fi
 use Rattle.editor_run.proofs.whole.play_whole.Goals as goal
 
 pub end-requires : goal.end-requires
-end-requires c =
+end-requires g c =
     not_ended_by c.play_alone.new.book.history
     (has_played c.args.frames c.new-book.result c.play_alone.new.book c.args.script.now c.in_ok-lists.lists.items
     (record { script = c.lines-lines.ensures.kept; opening_is = c.new-book.ensures; alone = c.in_ok-lists.ensures })).entries
 
 pub finish_all-requires-clause-ended : goal.finish_all-requires-clause-ended
-finish_all-requires-clause-ended c =
+finish_all-requires-clause-ended g c κs within =
     let played = has_played c.args.frames c.new-book.result c.play_alone.new.book c.args.script.now c.in_ok-lists.lists.items
     (record { script = c.lines-lines.ensures.kept; opening_is = c.new-book.ensures; alone = c.in_ok-lists.ensures }) in
     ap is_some (ended_place c.play_alone.new.book c.end.new.book c.args.script.now c.in_ok-lists.lists.items played c.in_ok-end.ensures)
 
 pub finish_all-requires-clause-last : goal.finish_all-requires-clause-last
-finish_all-requires-clause-last c =
+finish_all-requires-clause-last g c κs within =
     let played = has_played c.args.frames c.new-book.result c.play_alone.new.book c.args.script.now c.in_ok-lists.lists.items
     (record { script = c.lines-lines.ensures.kept; opening_is = c.new-book.ensures; alone = c.in_ok-lists.ensures }) in
     ended_last c.play_alone.new.book c.end.new.book c.args.script.now c.in_ok-lists.lists.items played c.in_ok-end.ensures
 
 pub returns : goal.returns
-returns c =
+returns g c =
     let whole : IsPlayedWhole c.args.frames c.new-book.result c.play_alone.new.book c.args.script.now c.in_ok-lists.lists.items = record { script = c.lines-lines.ensures.kept; opening_is = c.new-book.ensures; alone = c.in_ok-lists.ensures } in
     let played = has_played c.args.frames c.new-book.result c.play_alone.new.book c.args.script.now c.in_ok-lists.lists.items whole in
     record {

@@ -1,4 +1,4 @@
-use Rattle.std.proofs.Common.{rules, refl, ap, [], ◌∷◌, ◌++◌, ◌∙◌, arith}
+use Rattle.std.proofs.Common.{refl, ap, [], ◌∷◌, ◌++◌, ◌∙◌, arith}
 use Rattle.std.proofs.lemmas.Grind.{common_steps}
 use Rattle.std.proofs.lemmas.List.{length-append}
 use Rattle.doc_book.specs.declared.told.Told.{Told}

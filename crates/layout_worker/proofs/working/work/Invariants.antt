@@ -1,5 +1,4 @@
 use Rattle.std.proofs.Common.{◌≡◌, ℕ, List, None, length}
-use Rattle.doc_book.specs.Desks.{Standing}
 use Rattle.layout_worker.specs.Working.{IsWorked}
 use Rattle.layout_worker.proofs.working.work.Given as goal
 

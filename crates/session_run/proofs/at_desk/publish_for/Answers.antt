@@ -18,3 +18,13 @@ pub returns-in-Stale-clause-replied : goal.returns-in-Stale-clause-replied
 returns-in-Stale-clause-replied g c =
     stale_replied (g.D.Desk.at c.args.desk.now) (g.D.Desk.at c.publish.new.self) c.args.line.now c.in_ok-solved.solved c.in-Stale.back c.in-Stale.front c.requires.line
     (c.requires.all ∙ ap (λ (j : JobOf). j.front) (sym c.in_ok-solved.ensures)) c.in-Stale.ensures.told c.in-Stale.ensures.called
+
+pub returns-in-Stale-clause-kept : goal.returns-in-Stale-clause-kept
+returns-in-Stale-clause-kept g c =
+    published_kept (g.D.Desk.at c.args.desk.now) (g.D.Desk.at c.publish.new.self) (g.D.Desk.at c.args.desk.now).who c.args.line.now.number c.in_ok-solved.solved
+    (publish.Stale c.in-Stale.front c.in-Stale.back) c.in-Stale.ensures.called
+
+pub returns-clause-kept : goal.returns-clause-kept
+returns-clause-kept g c =
+    published_kept (g.D.Desk.at c.args.desk.now) (g.D.Desk.at c.publish.new.self) (g.D.Desk.at c.args.desk.now).who c.args.line.now.number c.in_ok-solved.solved
+    (publish.Memory c.in-Memory.back) c.in-Memory.ensures.called

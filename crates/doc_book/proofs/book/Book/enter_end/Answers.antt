@@ -9,5 +9,5 @@ use Rattle.doc_book.proofs.book.Book.enter_end.Goals as goal
 pub invariant_of-self-2 : goal.invariant_of-self-2
 invariant_of-self-2 c =
     let open_history = ap (λ (d : Document). end_place d.history) c.self.view_is ∙ c.requires in
-    subst (λ (items : List Entry). IsBook items c.self.inside.budget c.self.inside.stand c.self.inside.places false) (sym c.in_ok-push.ensures.items)
-    (IsBook-end c.self.inside.history.items c.self.inside.budget c.self.inside.stand c.self.inside.places c.self.inside.settled c.self.invariant open_history)
+    subst (λ (items : List Entry). IsBook items c.self.inside.budget c.self.inside.stand c.self.inside.places false c.self.inside.hints) (sym c.in_ok-push.ensures.items)
+    (IsBook-end c.self.inside.history.items c.self.inside.budget c.self.inside.stand c.self.inside.places c.self.inside.settled c.self.inside.hints c.self.invariant open_history)

@@ -25,7 +25,7 @@ invariant_of-self-2 c =
     c.add.ensures
     ∙ ap (λ (es : List Entry). es ++ entry_of c.args.who c.args.line (act.Frame c.into_frame-frame.result) ∷ []) c.reserve.ensures.items
     ∙ ap (λ (g : Frame). h ++ entry_of c.args.who c.args.line (act.Frame g) ∷ []) c.into_frame-frame.ensures in
-    subst (λ (es : List Entry). IsBook es c.self.inside.budget c.self.inside.stand c.in-Ok.places c.settled-settled.result) (sym items)
-    (subst (λ (g : Frame). IsBook (h ++ entry_of c.args.who c.args.line (act.Frame g) ∷ []) c.self.inside.budget c.self.inside.stand c.in-Ok.places c.settled-settled.result) same
-    (IsBook-frame h c.self.inside.budget c.self.inside.stand c.self.inside.places c.self.inside.settled c.args.who c.args.line f c.in-Ok.places c.settled-settled.result c.self.invariant
-    room legal c.in-Ok.ensures c.settled-settled.ensures))
+    subst (λ (es : List Entry). IsBook es c.self.inside.budget c.self.inside.stand c.in-Ok.places c.settled-settled.result c.in-Ok-next_hints.hints) (sym items)
+    (subst (λ (g : Frame). IsBook (h ++ entry_of c.args.who c.args.line (act.Frame g) ∷ []) c.self.inside.budget c.self.inside.stand c.in-Ok.places c.settled-settled.result c.in-Ok-next_hints.hints) same
+    (IsBook-frame h c.self.inside.budget c.self.inside.stand c.self.inside.places c.self.inside.settled c.self.inside.hints c.args.who c.args.line f c.in-Ok.places c.settled-settled.result c.in-Ok-next_hints.hints c.self.invariant
+    room legal c.in-Ok.ensures c.settled-settled.ensures c.in-Ok-next_hints.ensures))

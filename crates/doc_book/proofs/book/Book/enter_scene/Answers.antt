@@ -19,7 +19,7 @@ pub push-requires-clause-few : goal.push-requires-clause-few
 push-requires-clause-few c =
     let h = c.self.inside.history.items in
     let accepted = subst (λ (d : Document). IsVerdict d.history c.args.edit None) (sym c.self.view_is) c.requires.verdict in
-    stand_short h c.self.inside.budget c.self.inside.stand c.self.inside.places c.self.inside.settled c.self.invariant (not_closed h c.args.edit accepted)
+    stand_short h c.self.inside.budget c.self.inside.stand c.self.inside.places c.self.inside.settled c.self.inside.hints c.self.invariant (not_closed h c.args.edit accepted)
 
 pub invariant_of-self-2 : goal.invariant_of-self-2
 invariant_of-self-2 c =
@@ -35,6 +35,6 @@ invariant_of-self-2 c =
     ∙ ap (λ (d : Diagram). carried (scene_of stand) d c.self.inside.places) whole in
     let items =
     c.add.ensures ∙ ap (λ (es : List Entry). es ++ entry_of c.args.who c.args.line (act.Edit c.args.edit) ∷ []) c.in_ok-reserve.ensures.items in
-    subst (λ (es : List Entry). IsBook es c.self.inside.budget c.push.new.self c.in_ok-places.places false) (sym items)
-    (IsBook-edit h c.self.inside.budget stand c.self.inside.places c.self.inside.settled c.args.who c.args.line c.args.edit c.push.new.self c.in_ok-places.places
+    subst (λ (es : List Entry). IsBook es c.self.inside.budget c.push.new.self c.in_ok-places.places false c.self.inside.hints) (sym items)
+    (IsBook-edit h c.self.inside.budget stand c.self.inside.places c.self.inside.settled c.self.inside.hints c.args.who c.args.line c.args.edit c.push.new.self c.in_ok-places.places
     c.self.invariant accepted (subst IsSound c.scene.ensures c.count-sound.ensures.sound) stand_is places_are)

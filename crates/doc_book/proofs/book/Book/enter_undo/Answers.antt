@@ -22,6 +22,6 @@ invariant_of-self-2 c =
     ∙ ap (λ (d : Diagram). carried d c.in_ok-scene.scene c.self.inside.places) c.scene.ensures
     ∙ ap (λ (d : Diagram). carried (scene_of stand) d c.self.inside.places) c.in_ok-scene.ensures in
     let items = c.add.ensures ∙ ap (λ (es : List Entry). es ++ entry_of c.args.who c.args.line act.Undo ∷ []) c.in_ok-reserve.ensures.items in
-    subst (λ (es : List Entry). IsBook es c.self.inside.budget c.undo.new.self c.in_ok-places.places false) (sym items)
-    (IsBook-undo h c.self.inside.budget stand c.self.inside.places c.self.inside.settled c.args.who c.args.line c.undo.new.self c.in_ok-places.places c.self.invariant accepted
+    subst (λ (es : List Entry). IsBook es c.self.inside.budget c.undo.new.self c.in_ok-places.places false c.self.inside.hints) (sym items)
+    (IsBook-undo h c.self.inside.budget stand c.self.inside.places c.self.inside.settled c.self.inside.hints c.args.who c.args.line c.undo.new.self c.in_ok-places.places c.self.invariant accepted
     stand_is places_are)

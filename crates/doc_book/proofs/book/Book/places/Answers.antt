@@ -14,4 +14,4 @@ returns-clause-layable c =
     let scene_is = k.kept.scene_is ∙ ap (λ (d : Document). scene_at d.history) c.self.view_is in
     let places_are = k.kept.places_are ∙ ap (λ (d : Document). places_at d.history) c.self.view_is in
     subst (λ (d : Diagram). IsLayable d (places_at c.args.self.now.history)) scene_is
-    (subst (λ (p : Places). IsLayable (scene_of c.self.inside.stand) p) places_are (book_layable c.self.inside.history.items c.self.inside.budget c.self.inside.stand c.self.inside.places c.self.inside.settled k))
+    (subst (λ (p : Places). IsLayable (scene_of c.self.inside.stand) p) places_are (book_layable c.self.inside.history.items c.self.inside.budget c.self.inside.stand c.self.inside.places c.self.inside.settled c.self.inside.hints k))

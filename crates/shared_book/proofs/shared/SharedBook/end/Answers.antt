@@ -1,4 +1,4 @@
-use Rattle.std.proofs.Common.{rules, refl, ap, sym, subst, ◌∙◌, ◌≡◌, ◌∷◌, ◌++◌, [], ℕ, List, length}
+use Rattle.std.proofs.Common.{rules, ap, sym, subst, ◌∙◌, ◌≡◌, ◌∷◌, ◌++◌, [], ℕ, List, length}
 use mathlib.Core.List.{IsPrefix}
 use Rattle.doc_book.specs.declared.entries.Act.TheVariants as act
 use Rattle.doc_book.specs.declared.entries.Entry.{Entry}

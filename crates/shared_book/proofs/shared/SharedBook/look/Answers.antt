@@ -1,4 +1,4 @@
-use Rattle.std.proofs.Common.{rules, ◌≡◌, ℕ, List}
+use Rattle.std.proofs.Common.{rules, ◌≡◌, List}
 use Rattle.doc_book.specs.declared.entries.Entry.{Entry}
 use Rattle.shared_book.proofs.Owning.{kept_same}
 use Rattle.shared_book.proofs.shared.SharedBook.look.Goals as goal

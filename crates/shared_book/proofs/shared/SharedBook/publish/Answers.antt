@@ -1,4 +1,4 @@
-use Rattle.std.proofs.Common.{rules, refl, ap, sym, subst, ◌∙◌, ◌≡◌, ◌∷◌, ◌++◌, [], ℕ, List, Bool, true, false, length}
+use Rattle.std.proofs.Common.{rules, refl, ap, sym, subst, ◌∙◌, ◌≡◌, ◌∷◌, ◌++◌, [], ℕ, List, true, false, length}
 use Rattle.std.proofs.lemmas.List.{append-nil}
 use mathlib.Core.List.{IsPrefix}
 use Rattle.doc_book.specs.declared.entries.Act.TheVariants as act
