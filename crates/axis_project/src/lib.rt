@@ -14,6 +14,3 @@ pub use both::project_both;
 pub use joining::parts;
 pub use law::components_law;
 pub use projecting::{project, project_from};
-
-#[cfg(test)]
-mod tests;

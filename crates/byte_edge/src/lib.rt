@@ -18,6 +18,3 @@ pub use source::{Failed, Source};
 pub use standard::{StdSink, StdSource};
 pub use sure::{SureSink, SureSource};
 pub use writing::put_all;
-
-#[cfg(test)]
-mod tests;

@@ -7,6 +7,3 @@ mod reading;
 
 pub use plans::{Plan, PlanStop};
 pub use reading::{plan_from, refusal_text};
-
-#[cfg(test)]
-mod tests;

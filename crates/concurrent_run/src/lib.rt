@@ -11,6 +11,3 @@ mod sessions;
 mod workers;
 
 pub use beside::{Beside, run_beside};
-
-#[cfg(test)]
-mod tests;

@@ -12,6 +12,3 @@ mod verdict;
 pub use arc::CycleArc;
 pub use law::feasibility_law;
 pub use verdict::{Verdict, test};
-
-#[cfg(test)]
-mod tests;

@@ -91,7 +91,7 @@ IsKept-edit h budget scene places settled who line e scene' places' k accepted s
     IsKept-change h budget scene places settled (entry_of who line (act.Edit e)) scene' places' k (not_closed h e accepted) accepted refl refl (λ before after p. refl)
     (scene_is ∙ (ap (edited e) k.scene_is ∙ sym (scene_of-push (standing h) e))) places_are
 
--- an undo that the history accepts: the edits that are left are replayed, or the last one is taken back
+-- an undo that the history accepts: the last edit is taken back by its record
 pub IsKept-undo : (h : List Entry) (budget : ℕ) (scene : Diagram) (places : Places) (settled : Bool) (who line : ℕ) (scene' : Diagram) (places' : Places)
     → IsKept h budget scene places settled → undo_verdict h ≡ None → scene' ≡ scene_of (without_last (standing h)) → places' ≡ carried scene scene' places
     → IsKept (h ++ entry_of who line act.Undo ∷ []) budget scene' places' false

@@ -29,10 +29,3 @@ pub use looking::{Job, Look};
 pub use publishing::{Finish, MOST_FINISHING, Publish, Solved};
 pub use replies::{Refused, Reply};
 pub use told::Told;
-
-#[cfg(test)]
-mod feasibility_tests;
-#[cfg(test)]
-mod frame_tests;
-#[cfg(test)]
-mod tests;

@@ -26,12 +26,3 @@ pub use moves::has_moves_left;
 pub use refusals::{Counted, Refusal};
 pub use steady::steady_law;
 pub use walks::Walk;
-
-#[cfg(test)]
-mod checking_tests;
-#[cfg(test)]
-mod limit_tests;
-#[cfg(test)]
-mod test_edits;
-#[cfg(test)]
-mod tests;

@@ -8,6 +8,3 @@ mod places;
 pub use carrying::carry;
 pub use frames::{Frame, drawn, settled};
 pub use places::{Desired, Places};
-
-#[cfg(test)]
-mod tests;

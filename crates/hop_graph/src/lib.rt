@@ -7,6 +7,3 @@ mod table;
 
 pub use links::shape_number;
 pub use table::{HopTable, hops};
-
-#[cfg(test)]
-mod tests;

@@ -6,6 +6,3 @@ mod working;
 
 pub use tallies::{Last, Tally};
 pub use working::work;
-
-#[cfg(test)]
-mod tests;

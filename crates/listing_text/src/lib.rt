@@ -10,6 +10,3 @@ mod walks;
 mod words;
 
 pub use listing::write_listing;
-
-#[cfg(test)]
-mod tests;

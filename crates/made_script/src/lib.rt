@@ -8,6 +8,3 @@ mod making;
 mod steps;
 
 pub use making::made;
-
-#[cfg(test)]
-mod tests;

@@ -16,6 +16,3 @@ pub use items::{
 pub use scene::Scene;
 pub use uses::{Wanted, is_among};
 pub use variables::{Variable, VariableName};
-
-#[cfg(test)]
-mod tests;

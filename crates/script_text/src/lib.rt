@@ -17,6 +17,3 @@ pub use faults::{FaultKind, ReadFault, ScriptFault};
 pub use printing::{command_text, edit_text, one_spelling, print};
 pub use reading::{one_fault, one_script, read};
 pub use scripts::{Command, Line, Script};
-
-#[cfg(test)]
-mod tests;

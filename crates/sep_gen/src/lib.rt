@@ -17,6 +17,3 @@ pub use adding::{
 pub use compiling::compile;
 pub use counting::count;
 pub use law::compilation_law;
-
-#[cfg(test)]
-mod tests;

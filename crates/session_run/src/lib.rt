@@ -8,6 +8,3 @@ mod laying;
 
 pub use alone::play_alone;
 pub use at_desk::play;
-
-#[cfg(test)]
-mod tests;

@@ -15,6 +15,3 @@ pub use opening::MOST_PASSES;
 pub use pass::Pass;
 pub use shared::SharedBook;
 pub use shelf::Shelf;
-
-#[cfg(test)]
-mod tests;

@@ -164,6 +164,11 @@ fn layouts_with_a_free_part(rt: HostRuntime) -> Result<(), Fail> {
         &rt,
         RIGID_PAGE,
         b"1 7 page p 0 0 120 100 0 rigid = accepted 4\n",
+    )?;
+    shows(
+        &rt,
+        RIGID_PAGE,
+        b"6 0 0 frame\nx a 0 0\nx b 40 40\nx c 80 80\nx p.low 0 0\nx p.high 120 120\n",
     )
 }
 

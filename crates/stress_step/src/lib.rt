@@ -10,6 +10,3 @@ mod stressing;
 
 pub use proposing::propose;
 pub use stressing::stress;
-
-#[cfg(test)]
-mod tests;

@@ -15,6 +15,3 @@ pub use laws::bounds_law;
 pub use picture::write_svg;
 pub use pieces::{Piece, put_pieces};
 pub use spans::Span;
-
-#[cfg(test)]
-mod tests;

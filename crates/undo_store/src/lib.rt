@@ -8,8 +8,3 @@ mod stand;
 
 pub use laws::stand_law;
 pub use stand::{MOST_EDITS, Stand};
-
-#[cfg(test)]
-mod test_scenes;
-#[cfg(test)]
-mod tests;

@@ -14,6 +14,3 @@ mod stops;
 mod violations;
 
 pub use solving::{Solution, solve, solve_counted_from, solve_from};
-
-#[cfg(test)]
-mod tests;

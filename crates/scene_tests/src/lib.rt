@@ -1,0 +1,21 @@
+//! Tests of the scene, of what its constraints mean, and of its layout. They stand apart, since a crate with tests is proved twice.
+#![tactic(auto)]
+
+#[cfg(test)]
+mod frames;
+#[cfg(test)]
+mod hops;
+#[cfg(test)]
+mod lists;
+#[cfg(test)]
+mod made_scenes;
+#[cfg(test)]
+mod meanings;
+#[cfg(test)]
+mod projections;
+#[cfg(test)]
+mod proposals;
+#[cfg(test)]
+mod scenes;
+#[cfg(test)]
+mod separations;
