@@ -41,7 +41,7 @@ impl Book {
         ensures legal { IsLegal self.new.history self.new.budget }
         ensures short { length self.new.history < 2 ^ 32 }
     {
-        // The front is asked for before and behind, for what the type keeps.
+        // Asked for, before and behind, what its type keeps, which the proof needs.
         let _before = self.front();
         let answer = self.edited(alloc, who, line, edit);
         let _behind = self.front();
@@ -57,7 +57,7 @@ impl Book {
         ensures legal { IsLegal self.new.history self.new.budget }
         ensures short { length self.new.history < 2 ^ 32 }
     {
-        // The front is asked for before and behind, for what the type keeps.
+        // Asked for, before and behind, what its type keeps, which the proof needs.
         let _before = self.front();
         let answer = self.undone(alloc, who, line);
         let _behind = self.front();
@@ -72,7 +72,7 @@ impl Book {
         ensures legal { IsLegal self.new.history self.new.budget }
         ensures short { length self.new.history < 2 ^ 32 }
     {
-        // The front is asked for before and behind, for what the type keeps.
+        // Asked for, before and behind, what its type keeps, which the proof needs.
         let _before = self.front();
         let answer = self.ended();
         let _behind = self.front();

@@ -133,7 +133,7 @@ impl Book {
         ensures legal { IsLegal self.new.history self.new.budget }
         ensures short { length self.new.history < 2 ^ 32 }
     {
-        // The front is asked for before and behind, for what the type keeps.
+        // Asked for, before and behind, what its type keeps, which the proof needs.
         let _before = self.front();
         let answer = self.published(alloc, who, line, solved);
         let _behind = self.front();
@@ -151,6 +151,7 @@ impl Book {
                 back: solved,
             };
         }
+        // Asked for what its type keeps, which the proof needs.
         let _legal = solved.frame();
         match self.enter_frame(alloc, who, line, solved) {
             Ok(()) => return Publish::Published { place: front },
@@ -167,7 +168,7 @@ impl Book {
         ensures legal { IsLegal self.new.history self.new.budget }
         ensures short { length self.new.history < 2 ^ 32 }
     {
-        // The front is asked for before and behind, for what the type keeps.
+        // Asked for, before and behind, what its type keeps, which the proof needs.
         let _before = self.front();
         let answer = self.finished(rt, alloc);
         let _behind = self.front();
@@ -200,6 +201,7 @@ impl Book {
     {
         let job = self.job(alloc)?;
         let solved = Solved::of(rt, alloc, job)?;
+        // Asked for what its type keeps, which the proof needs.
         let _legal = solved.frame();
         Ok(solved)
     }

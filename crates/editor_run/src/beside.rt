@@ -31,7 +31,7 @@ pub fn play_beside<R: AllocGlobal + Threads + Wait + Sync, G: Gate + Sync>(
         tallies,
     } = beside;
     finish_all(rt, rt.alloc(), &mut book)?;
-    // The history is asked for what its type keeps, which the proof needs.
+    // Asked for what its type keeps, which the proof needs.
     let _legal = book.history();
     Ok(Played {
         book,

@@ -33,12 +33,13 @@ pub fn play_whole<R: Threads + Sync>(
     requires { frames ≤ most_frames }
     ensures { IfOk result (λ p. IsPlayedToEnd frames 0 script.now p.book p.replies p.tallies) }
 {
-    // The lines, and the history below, are asked for what their types keep, which the proof needs.
+    // Asked for what its type keeps, which the proof needs.
     let _lines = script.lines();
     let mut book = Book::new(alloc, frames);
     let lists = play_alone(rt, alloc, &mut book, script)?;
     end(&mut book)?;
     finish_all(rt, alloc, &mut book)?;
+    // Asked for what its type keeps, which the proof needs.
     let _legal = book.history();
     Ok(Played {
         book,

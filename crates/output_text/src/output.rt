@@ -26,6 +26,7 @@ fn put_picture<K: Sink>(book: &Book, sink: &mut K) -> Result<(), SinkStop>
     requires { IsFinished book.now.history }
     ensures { Puts (K.put sink.old) (K.put sink.new) (K.faults sink.old) (K.faults sink.new) (picture_text book.now.history) result }
 {
+    // Asked for what its type keeps, which the proof needs.
     let _legal = book.history();
     let scene = book.scene();
     let places = book.places();
@@ -44,6 +45,7 @@ fn put_summary<K: Sink>(
     requires replies { ScriptHasReplies script.now replies.now }
     ensures { Puts (K.put sink.old) (K.put sink.new) (K.faults sink.old) (K.faults sink.new) (summary_text number book.now.history replies.now) result }
 {
+    // Asked for what its type keeps, which the proof needs.
     let _few = script.lines();
     write_summary(number, book, replies, sink)
 }

@@ -64,7 +64,7 @@ fn set_shape(scene: &mut Scene, shape: Shape) -> Result<(), Fail>
     requires { IsShape shape }
 {
     let item = scene.lookup(&shape.name).ok_or("it stands")?;
-    // A scene is sound, which `count` tells.
+    // Asked for what its type keeps, which the proof needs.
     let _shapes = scene.count(Sort::Shape);
     match item.sort {
         Sort::Shape => scene.set(Thing::Shape(shape)),
@@ -79,6 +79,7 @@ fn take_and_put_back(scene: &mut Scene, name: Name) -> Result<(), Fail> {
     if scene.user_of(&name).is_some() {
         return Err("no item uses it".into());
     }
+    // Asked for what its type keeps, which the proof needs.
     let _shapes = scene.count(Sort::Shape);
     let (at, thing) = scene.take(&name);
     if at > scene.count(thing.sort()) {

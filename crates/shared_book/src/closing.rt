@@ -30,6 +30,7 @@ impl SharedBook {
         let Room { seats: room } = room.into_inner();
         let seats = seats_of(passes, room);
         let Shelf { book } = table.close(seats);
+        // Asked for what its type keeps, which the proof needs.
         let _front = book.front();
         book
     }

@@ -78,6 +78,7 @@ fn shapes_length(book: &Book, axis: Axis) -> i64
     requires { EndsInFrame book.now.history }
     ensures { result ≡ shapes_length (scene_at book.now.history) axis (places_at book.now.history) }
 {
+    // Asked for what its type keeps, which the proof needs.
     let _legal = book.history();
     length_of(shapes_span(book.scene(), axis, book.places()))
 }
