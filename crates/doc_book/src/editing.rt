@@ -2,9 +2,13 @@
 ghost use Rattle.std.specs.Vec.{vec_len, vec_capacity};
 ghost use Rattle.std.specs.Prelude.{◌≡◌, ◌⊎◌, ◌<◌, ◌^◌, true, None, Some, [], ◌∷◌, ◌++◌, length, MatchResult, IfOk, OnOk, OnErr};
 ghost use Rattle.edit_rules.specs.declared.refusals.Refusal.TheVariants as refusal;
-ghost use Rattle.edit_rules.specs.Effects.{edited};
+ghost use Rattle.units.specs.declared.geometry.Axis.TheVariants as axes;
+ghost use Rattle.scene_model.specs.Variables.{variables};
+ghost use Rattle.edit_rules.specs.Effects.{edited, scene_of};
 ghost use Rattle.edit_rules.specs.Refusals.{refusal_of};
 ghost use Rattle.edit_rules.specs.Steady.{is_steady};
+ghost use Rattle.undo_store.specs.Along.{without_last};
+ghost use Rattle.frame_store.specs.Carry.{carried};
 ghost use Rattle.doc_book.specs.declared.entries.Act.TheVariants as act;
 ghost use Rattle.doc_book.specs.Calls.{IsEntered};
 ghost use Rattle.doc_book.specs.Events.{Edits, Undoes, Ends};
@@ -20,9 +24,10 @@ use crate::feasibility::infeasibility;
 use crate::replies::Refused;
 use crate::scanning::end_place;
 use edit_rules::{Counted, Edit, Refusal, check};
-use frame_store::carry;
+use frame_store::{Places, carry};
 use scene_model::{Scene, Sort};
 use std::alloc::Global;
+use undo_store::Stand;
 use units::Memory;
 
 /// The most entries with which an edit or undo is still entered.
@@ -222,10 +227,9 @@ impl Book {
     {
         // Asked for what its type keeps, which the proof needs.
         let _sound = self.stand.scene().count(Sort::Shape);
-        let places = carry(alloc, self.stand.scene(), scene, &self.places)?;
-        let copy = edit.copy(alloc)?;
         self.history.reserve(1)?;
-        self.stand.push(alloc, copy)?;
+        let places = carry(alloc, self.stand.scene(), scene, &self.places)?;
+        push_copy(&mut self.stand, alloc, &edit)?;
         add(
             &mut self.history,
             Entry {
@@ -244,9 +248,8 @@ impl Book {
         ensures entered { OnOk result (self.new ≡ record self.old { history = self.old.history ++ entry_of who line act.Undo ∷ [] }) }
         ensures unchanged { OnErr result (self.new ≡ self.old) }
     {
-        let scene = self.stand.scene_before(alloc)?;
-        let places = carry(alloc, self.stand.scene(), &scene, &self.places)?;
         self.history.reserve(1)?;
+        let places = places_before(alloc, &self.stand, &self.places)?;
         let _stood = self.stand.undo(alloc)?;
         add(
             &mut self.history,
@@ -286,6 +289,28 @@ fn infeasibility_after(alloc: Global, edit: &Edit, scene: &Scene) -> Result<(), 
         return Ok(());
     }
     infeasibility(alloc, scene)
+}
+
+/// The places as the last edit is taken off, where one stands.
+fn places_before(alloc: Global, stand: &Stand, places: &Places) -> Result<Places, Memory>
+    requires some { 0 < length stand.now }
+    requires on_x { length places.now.x ≡ length (variables (scene_of stand.now) axes.X) }
+    requires on_y { length places.now.y ≡ length (variables (scene_of stand.now) axes.Y) }
+    ensures { IfOk result (λ before. before ≡ carried (scene_of stand.now) (scene_of (without_last stand.now)) places.now) }
+{
+    let scene = stand.scene_before(alloc)?;
+    carry(alloc, stand.scene(), &scene, places)
+}
+
+/// Adds a copy of an edit to the stand, whose scene accepts it. After want of memory the stand is as before.
+fn push_copy(stand: &mut Stand, alloc: Global, edit: &Edit) -> Result<(), Memory>
+    requires accepted { refusal_of (scene_of stand.old) edit.now ≡ None }
+    requires few { length stand.old < 20000 }
+    ensures pushed { OnOk result (stand.new ≡ stand.old ++ edit.now ∷ []) }
+    ensures unchanged { OnErr result (stand.new ≡ stand.old) }
+{
+    let copy = edit.copy(alloc)?;
+    stand.push(alloc, copy)
 }
 
 /// Adds an entry, for which there is room.

@@ -139,7 +139,7 @@ impl Edit {
     pub fn copy(&self, alloc: Global) -> Result<Edit, Memory>
         ensures { IfOk result (λ copy. copy ≡ self.now) }
     {
-        match self {
+        let copy = match self {
             Edit::Put {
                 name,
                 form,
@@ -147,75 +147,75 @@ impl Edit {
                 y,
                 w,
                 h,
-            } => Ok(Edit::Put {
+            } => Edit::Put {
                 name: *name,
                 form: *form,
                 x: *x,
                 y: *y,
                 w: *w,
                 h: *h,
-            }),
-            Edit::Size { name, w, h } => Ok(Edit::Size {
+            },
+            Edit::Size { name, w, h } => Edit::Size {
                 name: *name,
                 w: *w,
                 h: *h,
-            }),
-            Edit::Move { name, x, y } => Ok(Edit::Move {
+            },
+            Edit::Move { name, x, y } => Edit::Move {
                 name: *name,
                 x: *x,
                 y: *y,
-            }),
-            Edit::Shift { name, at } => Ok(Edit::Shift {
+            },
+            Edit::Shift { name, at } => Edit::Shift {
                 name: *name,
                 at: *at,
-            }),
-            Edit::Hold { name } => Ok(Edit::Hold { name: *name }),
-            Edit::Free { name } => Ok(Edit::Free { name: *name }),
-            Edit::Remove { name } => Ok(Edit::Remove { name: *name }),
-            Edit::Join { name, a, b } => Ok(Edit::Join {
+            },
+            Edit::Hold { name } => Edit::Hold { name: *name },
+            Edit::Free { name } => Edit::Free { name: *name },
+            Edit::Remove { name } => Edit::Remove { name: *name },
+            Edit::Join { name, a, b } => Edit::Join {
                 name: *name,
                 a: *a,
                 b: *b,
-            }),
-            Edit::Unlink { name } => Ok(Edit::Unlink { name: *name }),
-            Edit::Guide { name, axis, at } => Ok(Edit::Guide {
+            },
+            Edit::Unlink { name } => Edit::Unlink { name: *name },
+            Edit::Guide { name, axis, at } => Edit::Guide {
                 name: *name,
                 axis: *axis,
                 at: *at,
-            }),
+            },
             Edit::Align {
                 name,
                 guide,
                 line,
                 members,
-            } => Ok(Edit::Align {
+            } => Edit::Align {
                 name: *name,
                 guide: *guide,
                 line: *line,
                 members: members.copy(alloc)?,
-            }),
+            },
             Edit::Spread {
                 name,
                 axis,
                 gap,
                 members,
-            } => Ok(Edit::Spread {
+            } => Edit::Spread {
                 name: *name,
                 axis: *axis,
                 gap: *gap,
                 members: members.copy(alloc)?,
-            }),
+            },
             Edit::Rank {
                 name,
                 axis,
                 gap,
                 members,
-            } => Ok(Edit::Rank {
+            } => Edit::Rank {
                 name: *name,
                 axis: *axis,
                 gap: *gap,
                 members: members.copy(alloc)?,
-            }),
+            },
             Edit::Apart {
                 name,
                 axis,
@@ -223,19 +223,19 @@ impl Edit {
                 b,
                 gap,
                 exact,
-            } => Ok(Edit::Apart {
+            } => Edit::Apart {
                 name: *name,
                 axis: *axis,
                 a: *a,
                 b: *b,
                 gap: *gap,
                 exact: *exact,
-            }),
-            Edit::Group { name, pad, members } => Ok(Edit::Group {
+            },
+            Edit::Group { name, pad, members } => Edit::Group {
                 name: *name,
                 pad: *pad,
                 members: members.copy(alloc)?,
-            }),
+            },
             Edit::Page {
                 name,
                 x,
@@ -244,7 +244,7 @@ impl Edit {
                 h,
                 margin,
                 rigid,
-            } => Ok(Edit::Page {
+            } => Edit::Page {
                 name: *name,
                 x: *x,
                 y: *y,
@@ -252,8 +252,9 @@ impl Edit {
                 h: *h,
                 margin: *margin,
                 rigid: *rigid,
-            }),
-            Edit::Drop { name } => Ok(Edit::Drop { name: *name }),
-        }
+            },
+            Edit::Drop { name } => Edit::Drop { name: *name },
+        };
+        Ok(copy)
     }
 }

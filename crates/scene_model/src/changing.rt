@@ -109,6 +109,7 @@ impl Scene {
             Thing::Compound(compound) => self.compounds.put_back(number, compound),
             Thing::Group(group) => self.groups.put_back(number, group),
             Thing::Page(page) => self.pages.put_back(number, page),
-        }
+        }?;
+        Ok(())
     }
 }

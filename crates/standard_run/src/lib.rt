@@ -6,6 +6,3 @@ mod process;
 mod words;
 
 pub use process::{run_over, run_process};
-
-#[cfg(test)]
-mod tests;

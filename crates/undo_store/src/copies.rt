@@ -10,14 +10,15 @@ use units::Memory;
 pub fn copy_of(alloc: Global, thing: &Thing) -> Result<Thing, Memory>
     ensures { IfOk result (λ copy. copy ≡ thing.now) }
 {
-    match thing {
-        Thing::Shape(shape) => Ok(Thing::Shape(*shape)),
-        Thing::Guide(guide) => Ok(Thing::Guide(*guide)),
-        Thing::Link(link) => Ok(Thing::Link(*link)),
-        Thing::Compound(compound) => Ok(Thing::Compound(copy_of_compound(alloc, compound)?)),
-        Thing::Group(group) => Ok(Thing::Group(copy_of_group(alloc, group)?)),
-        Thing::Page(page) => Ok(Thing::Page(*page)),
-    }
+    let copy = match thing {
+        Thing::Shape(shape) => Thing::Shape(*shape),
+        Thing::Guide(guide) => Thing::Guide(*guide),
+        Thing::Link(link) => Thing::Link(*link),
+        Thing::Compound(compound) => Thing::Compound(copy_of_compound(alloc, compound)?),
+        Thing::Group(group) => Thing::Group(copy_of_group(alloc, group)?),
+        Thing::Page(page) => Thing::Page(*page),
+    };
+    Ok(copy)
 }
 
 /// An item equal to the one of this sort and number, which stands.

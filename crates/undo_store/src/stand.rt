@@ -1,8 +1,10 @@
 //! The stand: a list of standing edits with their scene.
 ghost use Rattle.std.specs.Prelude.{◌≡◌, ◌<◌, ◌≤◌, [], ◌∷◌, ◌++◌, None, IfOk, OnOk, OnErr, length, nat_lt};
 ghost use Rattle.edit_rules.specs.Effects.{scene_of, edited};
+ghost use Rattle.edit_rules.specs.Moves.{HasMovesLeft};
 ghost use Rattle.edit_rules.specs.Refusals.{refusal_of};
 ghost use Rattle.undo_store.specs.Along.{without_last};
+ghost use Rattle.undo_store.specs.TakenBack.{TakesBack};
 
 use crate::records::{Record, record_of, take_back};
 use edit_rules::{Edit, apply};
@@ -84,11 +86,9 @@ impl Stand {
         ensures pushed { OnOk result (self.new ≡ self.old ++ edit ∷ []) }
         ensures unchanged { OnErr result (self.new ≡ self.old) }
     {
-        let back = record_of(alloc, &self.scene, &edit)?;
-        let copy = edit.copy(alloc)?;
         self.edits.reserve(1)?;
         self.records.reserve(1)?;
-        apply(&mut self.scene, copy)?;
+        let back = apply_recorded(alloc, &mut self.scene, &edit)?;
         self.edits.push_reserved(edit);
         self.records.push_reserved(back);
         Ok(())
@@ -131,4 +131,18 @@ impl Stand {
         take_back(alloc, &mut scene, &self.records[count - 1])?;
         Ok(scene)
     }
+}
+
+/// Applies an edit, which the scene accepts, and gives what takes it back. After want of memory the scene is as before.
+fn apply_recorded(alloc: Global, scene: &mut Scene, edit: &Edit) -> Result<Record, Memory>
+    requires accepted { refusal_of scene.old edit.now ≡ None }
+    requires few { HasMovesLeft scene.old edit.now }
+    ensures back { IfOk result (λ back. TakesBack back scene.old (edited edit.now scene.old)) }
+    ensures edited { OnOk result (scene.new ≡ edited edit.now scene.old) }
+    ensures unchanged { OnErr result (scene.new ≡ scene.old) }
+{
+    let back = record_of(alloc, scene, edit)?;
+    let copy = edit.copy(alloc)?;
+    apply(scene, copy)?;
+    Ok(back)
 }
