@@ -16,3 +16,4 @@ pub mod Blocks
 pub mod Existing
 pub mod Taking
 pub mod Negative
+pub mod Passing

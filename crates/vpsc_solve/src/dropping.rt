@@ -115,6 +115,33 @@ fn fallen_from(
     Ok(number_of(least))
 }
 
+/// Looks at the blocks of the active separations, one after the other, until there is one that has a separation that isn't exact and
+/// whose multiplier is below 0: its number.
+fn fallen_among(
+    alloc: Global,
+    problem: &Problem,
+    active: &[u16],
+    lefts: &Chains,
+    rights: &Chains,
+    seen: &mut [bool],
+) -> Result<Option<u16>, AllocError>
+    requires active { IsActive problem.now active.now }
+    requires lefts { AreChains problem.now.separations active.now false (length problem.now.desired) lefts.now }
+    requires rights { AreChains problem.now.separations active.now true (length problem.now.desired) rights.now }
+    requires seen { AreSeen problem.now active.now seen.old }
+    ensures { IfOk result (IsFallen problem.now active.now) }
+{
+    let seps = problem.seps();
+    for number in active {
+        let root = seps[*number as usize].left;
+        match fallen_from(alloc, problem, active, lefts, rights, root, seen)? {
+            Some(number) => return Ok(Some(number)),
+            None => {}
+        }
+    }
+    Ok(None)
+}
+
 /// The number of an active separation that isn't exact and whose multiplier is below 0 at rest: the least one of a block that has
 /// any. None where there is none. Each block of an active separation is swept once.
 fn first_fallen(alloc: Global, problem: &Problem, active: &[u16]) -> Result<Option<u16>, AllocError>
@@ -126,14 +153,7 @@ fn first_fallen(alloc: Global, problem: &Problem, active: &[u16]) -> Result<Opti
     let lefts = chain(alloc, count, seps, active, false)?;
     let rights = chain(alloc, count, seps, active, true)?;
     let mut seen = vec![in alloc; false; count]?;
-    for number in active {
-        let root = seps[*number as usize].left;
-        match fallen_from(alloc, problem, active, &lefts, &rights, root, &mut seen)? {
-            Some(number) => return Ok(Some(number)),
-            None => {}
-        }
-    }
-    Ok(None)
+    fallen_among(alloc, problem, active, &lefts, &rights, &mut seen)
 }
 
 /// Drops separations that aren't exact and whose multipliers are below 0 at rest, one after the other, until there is none. Each drop

@@ -1,5 +1,6 @@
 //! The next stop of a closing.
-ghost use Rattle.std.specs.Prelude.{◌≡◌, ◌<◌, ◌↔◌, ℕ, ℤ, length, IfOk, IfSome, IsTrue, pos, nat_abs, ◌≤◌, ◌<ℤ◌};
+ghost use Rattle.std.specs.Prelude.{◌≡◌, ◌<◌, ◌↔◌, ℕ, ℤ, length, IfOk, IfSome, IsTrue, pos, nat_abs, ◌≤◌, ◌<ℤ◌, true, false};
+ghost use Rattle.block_sums.specs.Ends.{AreChains};
 ghost use Rattle.block_sums.specs.Legs.{IsReached};
 ghost use Rattle.block_sums.specs.Solving.{Active, IsActive, HasBounds};
 ghost use Rattle.block_sums.specs.Loads.{load_at};
@@ -8,7 +9,7 @@ ghost use Rattle.vpsc_solve.specs.Stops.{IsStop, IsStopBetween, IsFeasible, IsUn
 
 use crate::stops::Stop;
 use block_sums::{
-    BlockSums, Leg, Threshold, chain, closing_force, first_fall, is_below, sweep_pushed,
+    BlockSums, Chains, Leg, Threshold, chain, closing_force, first_fall, is_below, sweep_pushed,
 };
 use std::alloc::{AllocError, Global};
 use units::{Problem, Sep};
@@ -53,13 +54,34 @@ pub fn next_stop(
     let count = problem.desired().len();
     let lefts = chain(alloc, count, problem.seps(), active, false)?;
     let rights = chain(alloc, count, problem.seps(), active, true)?;
+    stop_by(alloc, problem, active, &lefts, &rights, closing)
+}
+
+/// The next stop, by the chains of the active list.
+fn stop_by(
+    alloc: Global,
+    problem: &Problem,
+    active: &[u16],
+    lefts: &Chains,
+    rights: &Chains,
+    closing: u16,
+) -> Result<Stop, AllocError>
+    requires active { IsActive problem.now active.now }
+    requires closing { closing < length problem.now.separations }
+    requires off { ¬ Active active.now closing }
+    requires lefts { AreChains problem.now.separations active.now false (length problem.now.desired) lefts.now }
+    requires rights { AreChains problem.now.separations active.now true (length problem.now.desired) rights.now }
+    requires feasible { IsFeasible problem.now }
+    requires under_way { (bound : ℤ) × (factor : ℕ) × IsUnderWay problem.now (Active active.now) closing bound factor }
+    ensures { IfOk result (IsStop problem.now active.now closing) }
+{
     let sep = problem.seps()[closing as usize];
-    let left = sweep_pushed(alloc, problem, active, &lefts, &rights, closing, sep.left)?;
+    let left = sweep_pushed(alloc, problem, active, lefts, rights, closing, sep.left)?;
     let first = first_fall(problem.seps(), &left, None);
     if is_reached(&left.block.legs, sep.right) {
         return Ok(stop_within(first));
     }
-    let right = sweep_pushed(alloc, problem, active, &lefts, &rights, closing, sep.right)?;
+    let right = sweep_pushed(alloc, problem, active, lefts, rights, closing, sep.right)?;
     let sooner = first_fall(problem.seps(), &right, first);
     let force = force_between(closing, &sep, &left.block, &right.block);
     Ok(stop_between(sooner, force))
