@@ -40,3 +40,7 @@ fits-128 z n h b = fits_signed_from_abs w128 z (below (nat_abs z) n h b)
 
 pub sum-small : (a b : ℤ) (m n : ℕ) → nat_abs a ≤ m → nat_abs b ≤ n → nat_abs (a +ℤ b) ≤ m + n
 sum-small a b m n ha hb = omega (arith, ints, ha, hb)
+
+-- a number that is known by an equation
+pub passed-is : (w : Width) (x a : ℤ) → x ≡ a → FitsSigned w a → to_z w (of_z w x) ≡ a
+passed-is w x a e f = ap (λ t. to_z w (of_z w t)) e ∙ to_z-of_z w a f

@@ -1,9 +1,7 @@
 -- The variables of blocks get their places.
-use Rattle.std.proofs.Common.{◌≡◌, ◌≢◌, ℕ, ◌+◌, ◌<◌, ◌≤◌, ◌^◌, ℤ, pos, ◌+ℤ◌, ◌<ℤ◌, nat_abs, List, length, get_or, set, arith, refl, sym, ap, ◌∙◌, Bool, true, false, eqb, eqb-true, subst, ◌⊎◌, inl, inr, to_z, of_z}
+use Rattle.std.proofs.Common.{◌≡◌, ◌≢◌, ℕ, ◌+◌, ◌<◌, ◌≤◌, ℤ, pos, ◌<ℤ◌, nat_abs, List, length, get_or, set, arith, refl, sym, ap, ◌∙◌, Bool, true, false, eqb, eqb-true, subst, ◌⊎◌, inl, inr}
 use Rattle.std.specs.List.{All, Contains}
-use Rattle.std.specs.Int.{w64}
 use Rattle.std.proofs.lemmas.Bool.{eqb-false}
-use Rattle.std.proofs.lemmas.Int.{ints, to_z-of_z, fits_signed_from_abs}
 use Rattle.std.proofs.lemmas.List.{get_or-set_same, get_or-set_other, get_or_default}
 use Rattle.units.specs.Problem.{Problem}
 use Rattle.solver_law.specs.Forest.{Joins}
@@ -15,15 +13,6 @@ use Rattle.block_sums.proofs.Growing.{all-legs}
 use Rattle.vpsc_solve.specs.declared.places.Place.{Place}
 use Rattle.vpsc_solve.specs.Places.{no_place, place_at, is_settled, IsLegPlace, IsPlaced, IsJoinedTo, AreSettled, IsPutAt, IsLeftAlone, ArePut}
 use Rattle.vpsc_solve.proofs.Directions.{reached-on}
-
--- ---- one place
-
-pub sum-passed : (x y m n : ℤ) → to_z w64 (of_z w64 x) ≡ m → to_z w64 (of_z w64 y) ≡ n → nat_abs m ≤ 66822000000000 → nat_abs n ≤ 66306000000000
-    → to_z w64 (of_z w64 (to_z w64 (of_z w64 x) +ℤ to_z w64 (of_z w64 y))) ≡ m +ℤ n
-sum-passed x y m n ex ey hm hn = rw (ex, ey) (to_z-of_z w64 (m +ℤ n) (fits_signed_from_abs w64 (m +ℤ n) (below m n hm hn)))
-  where
-    below : (m n : ℤ) → nat_abs m ≤ 66822000000000 → nat_abs n ≤ 66306000000000 → nat_abs (m +ℤ n) < 2 ^ 63
-    below m n h g = omega (arith, ints, h, g)
 
 pub legs-near : (p : Problem) (active : List ℕ) (root : ℕ) (legs : List Leg) → IsTree p.separations active root legs → length legs ≤ 258 → All (λ leg. nat_abs leg.offset ≤ 257000000) legs
 legs-near p active root legs h short = all-legs (λ leg. nat_abs leg.offset ≤ 257000000) legs (λ j b. let n = h.near j b in omega (arith, n, b, short))
