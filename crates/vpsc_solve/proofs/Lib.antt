@@ -16,4 +16,3 @@ pub mod Blocks
 pub mod Existing
 pub mod Taking
 pub mod Negative
-pub mod Passing

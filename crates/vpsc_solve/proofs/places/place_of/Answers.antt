@@ -4,12 +4,8 @@ use Rattle.std.proofs.lemmas.List.{get_or_default}
 use Rattle.block_sums.specs.declared.legs.Leg.{Leg}
 use Rattle.block_sums.specs.Legs.{no_leg, leg_at}
 use Rattle.block_sums.specs.Loads.{load_at}
-use Rattle.vpsc_solve.proofs.Passing.{passed-is, sum-fits, sum-is, sum-small, fits-64}
+use Rattle.block_sums.proofs.Passing.{passed-is, read-small, sum-fits, sum-is, sum-small, fits-64}
 use Rattle.vpsc_solve.proofs.places.place_of.Goals as goal
-
--- what is read of a list, as it is passed on
-read-small : (xs : List ℤ) (i n : ℕ) (x : ℤ) → i < length xs → x ≡ get_or xs i x → nat_abs (load_at xs i) ≤ n → n < 2 ^ 63 → to_z w64 (of_z w64 x) ≡ load_at xs i
-read-small xs i n x h e near b = passed-is w64 x (load_at xs i) (e ∙ get_or_default xs i x (pos 0) h) (fits-64 (load_at xs i) n near b)
 
 offset-passed : (leg there : Leg) → leg ≡ there → nat_abs there.offset ≤ 257000000 → to_z w64 (of_z w64 leg.offset) ≡ there.offset
 offset-passed leg there e near = passed-is w64 leg.offset there.offset (ap (λ l. l.offset) e) (fits-64 there.offset 257000000 near (omega arith))

@@ -2,7 +2,7 @@ use Rattle.std.proofs.Common.{◌≤◌, ◌*ℤ◌, nat_abs, arith, ◌∙◌, 
 use Rattle.std.specs.Int.{w64, w128}
 use Rattle.std.proofs.lemmas.Int.{to_z-of_z}
 use Rattle.block_sums.proofs.Products.{abs-product, passed-product}
-use Rattle.vpsc_solve.proofs.Passing.{product-fits, fits-128}
+use Rattle.block_sums.proofs.Passing.{product-fits, fits-128}
 use Rattle.vpsc_solve.proofs.violations.product.Goals as goal
 
 num-fits : (m : ℤ) → nat_abs m ≤ 133386000000000 → FitsSigned w128 m

@@ -1,7 +1,7 @@
 use Rattle.std.proofs.Common.{◌≡◌, ◌≤◌, ◌+ℤ◌, ◌*ℤ◌, nat_abs, arith, ◌∙◌, FitsSigned, ℤ, sym, subst, ap, to_z, of_z}
 use Rattle.std.specs.Int.{w32, w64}
 use Rattle.std.proofs.lemmas.Int.{to_z-of_z}
-use Rattle.vpsc_solve.proofs.Passing.{passed-small, sum-fits, sum-is, sum-small, fits-32, fits-64}
+use Rattle.block_sums.proofs.Passing.{passed-small, sum-fits, sum-is, sum-small, fits-32, fits-64}
 use Rattle.vpsc_solve.proofs.violations.reached_from.Goals as goal
 
 gap-fits : (g : ℤ) → nat_abs g ≤ 1000000 → FitsSigned w32 g

@@ -2,7 +2,7 @@ use Rattle.std.proofs.Common.{◌≤◌, ◌*ℤ◌, nat_abs, arith, ◌∙◌, 
 use Rattle.std.specs.Int.{w32, w64}
 use Rattle.std.proofs.lemmas.Int.{to_z-of_z}
 use Rattle.block_sums.proofs.Products.{abs-product, passed-product}
-use Rattle.vpsc_solve.proofs.Passing.{product-fits, fits-64}
+use Rattle.block_sums.proofs.Passing.{product-fits, fits-64}
 use Rattle.vpsc_solve.proofs.violations.stretched.Goals as goal
 
 gap-fits : (g : ℤ) → nat_abs g ≤ 1000000 → FitsSigned w64 g

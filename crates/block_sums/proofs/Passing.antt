@@ -1,7 +1,9 @@
 -- Numbers as they are passed on: within their width they are as they were.
-use Rattle.std.proofs.Common.{◌≡◌, ◌≤◌, ◌<◌, ◌^◌, ◌+◌, ℕ, ℤ, ◌+ℤ◌, ◌*ℤ◌, nat_abs, arith, sym, ap, ◌∙◌, FitsSigned, to_z, of_z, subst}
+use Rattle.std.proofs.Common.{◌≡◌, ◌≤◌, ◌<◌, ◌^◌, ◌+◌, ℕ, ℤ, pos, List, length, get_or, ◌+ℤ◌, ◌*ℤ◌, nat_abs, arith, sym, ap, ◌∙◌, FitsSigned, to_z, of_z, subst}
 use Rattle.std.specs.Int.{w32, w64, w128, Width}
 use Rattle.std.proofs.lemmas.Int.{ints, to_z-of_z, fits_signed_from_abs}
+use Rattle.std.proofs.lemmas.List.{get_or_default}
+use Rattle.block_sums.specs.Loads.{load_at}
 
 -- a bound on a number bounds what is passed
 pub passed-small : (w : Width) (z : ℤ) (n : ℕ) → FitsSigned w z → nat_abs z ≤ n → nat_abs (to_z w (of_z w z)) ≤ n
@@ -44,3 +46,10 @@ sum-small a b m n ha hb = omega (arith, ints, ha, hb)
 -- a number that is known by an equation
 pub passed-is : (w : Width) (x a : ℤ) → x ≡ a → FitsSigned w a → to_z w (of_z w x) ≡ a
 passed-is w x a e f = ap (λ t. to_z w (of_z w t)) e ∙ to_z-of_z w a f
+
+-- what is read of a list, as it is passed on
+pub read-small : (xs : List ℤ) (i n : ℕ) (x : ℤ) → i < length xs → x ≡ get_or xs i x → nat_abs (load_at xs i) ≤ n → n < 2 ^ 63 → to_z w64 (of_z w64 x) ≡ load_at xs i
+read-small xs i n x h e near b = passed-is w64 x (load_at xs i) (e ∙ get_or_default xs i x (pos 0) h) (fits-64 (load_at xs i) n near b)
+
+pub read-bounded : (xs : List ℤ) (i n : ℕ) (x : ℤ) → i < length xs → x ≡ get_or xs i x → nat_abs (load_at xs i) ≤ n → n < 2 ^ 63 → nat_abs (to_z w64 (of_z w64 x)) ≤ n
+read-bounded xs i n x h e near b = subst (λ z. nat_abs z ≤ n) (sym (read-small xs i n x h e near b)) near
